@@ -1,0 +1,12 @@
+pub mod Finding
+pub mod Steps
+pub mod Runs
+pub mod Values
+pub mod Sound
+pub mod Complete
+pub mod Parts
+pub mod Witness
+pub mod Verdicts
+pub mod Determined
+pub mod Once
+pub mod Images

@@ -1,0 +1,5 @@
+//! The grammar of scripts.
+pub mod form;
+mod items;
+pub mod laws;
+pub mod words;

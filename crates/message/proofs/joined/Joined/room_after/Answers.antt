@@ -1,0 +1,20 @@
+use Prim.Native.Nat.{_<_}
+use native.Mathlib.Omega.{arith}
+use mathlib.Core.List.{_∷_}
+use lib.ListN.{length-append}
+use borrow.Author.Needs.{needs}
+use Rattle.message.proofs.Pages.{room-joined}
+use Rattle.message.proofs.joined.Joined.room_after.Needs as need
+
+pub returns-in-Break-room-after : need.returns-in-Break-room-after
+returns-in-Break-room-after g c = λ b. rw (c .from-residual .ensures) (omega (arith, c .in-Break-room-after .ensures tt, length-append (g .A·Literal .literal (c .args .self .left)) (b ∷ g .B·Literal .literal (c .args .self .right))))
+
+pub returns-in-Break-rest : need.returns-in-Break-rest
+returns-in-Break-rest g c = λ b.
+    let none : c .in-Continue-room-after .field-0 < 1 = omega (arith, c .in-Break-rest .ensures tt) in
+    rw (c .from-residual-in-Break-rest .ensures) (omega (arith, c .in-Continue-room-after .ensures tt, length-append (g .A·Literal .literal (c .args .self .left)) (b ∷ g .B·Literal .literal (c .args .self .right))))
+
+pub returns : need.returns
+returns g c = λ b.
+    room-joined (g .A·Literal .literal (c .args .self .left)) b (g .B·Literal .literal (c .args .self .right)) (c .args .room) (c .in-Continue-room-after .field-0) (c .in-Continue-rest .rest) (c .room-after-2 .result)
+    (c .in-Continue-room-after .ensures tt) (omega (arith, c .in-Continue-rest .ensures tt)) (c .room-after-2 .ensures)

@@ -1,0 +1,5 @@
+pub mod Firsts
+pub mod Walking
+pub mod Numbering
+pub mod Counting
+pub mod Declaring

@@ -1,0 +1,8 @@
+pub mod Numbers
+pub mod Reading
+pub mod Held
+pub mod Adding
+pub mod Holding
+pub mod Valued
+pub mod Once
+pub mod Building

@@ -1,0 +1,5 @@
+pub mod Opening
+pub mod Runs
+pub mod Rising
+pub mod Integers
+pub mod Steps
