@@ -1,11 +1,11 @@
 -- Where tokens stop being those of a script, and what each token of a script is there for.
 use Prim.Native.Nat.{ℕ, _+_, _≤_, _<_}
 use mathlib.Core.Path.{_≡_}
-use mathlib.Core.List.{List, [], _∷_, map}
+use mathlib.Core.List.{List, [], _∷_}
 use lib.ListN.{length, take}
 use Rattle.grammar.specs.declared.words.Use.{Use}
 use Rattle.tokens.specs.Tokens.{Lexeme, lexemes, tokens, place-of}
-use Rattle.grammar.specs.Grammar.{Part, part, Raw, raw-parts, Well-spelled, part-lexemes, Is-script, Viable, Script, script, Spelling}
+use Rattle.grammar.specs.Grammar.{Part, part, Raw, raw-parts, Well-spelled, Is-script, Viable, Script, script, Spelling}
 
 -- the first k tokens begin a script, and no script goes on with the next; or they are all, and no script
 pub record Misfit-at (ls : List Lexeme) (k : ℕ) : Type 0 where

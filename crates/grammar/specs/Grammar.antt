@@ -18,7 +18,7 @@ use Rattle.grammar.specs.declared.words.NumberUse.{NumberUse}
 use Rattle.grammar.specs.declared.words.NumberUse.the-variants.{NewPort, NewBody, SendPort, RecvPort, SpawnBody, NackBody, Delay, Addend}
 use Rattle.grammar.specs.declared.words.LiteralUse.{LiteralUse}
 use Rattle.grammar.specs.declared.words.LiteralUse.the-variants.{InAlways, InSet}
-use Rattle.tokens.specs.Tokens.{Lexeme, opening, closing, atom, Run, Integer, lexemes}
+use Rattle.tokens.specs.Tokens.{Lexeme, opening, closing, atom, Run, Integer}
 
 -- Scripts, over what their numbers (N), added numbers (K) and literals (L) are.
 

@@ -1,4 +1,3 @@
-ghost use mathlib.Core.Path.{_≡_};
 use message::kind::Sign;
 use message::kind::SignDebug;
 use message::kind::SignPartialEq;

@@ -77,7 +77,7 @@ fn print_inner(rt: &impl Print, fault: Fault) -> io::Result<()> {
     match fault {
         Fault::Message(MessageFault::InScript { fault, .. }) => {
             let at = fault.at;
-            println!(rt, "of the literal, {at} bytes begin one")
+            println!(rt, "its first {at} bytes begin one")
         }
         _ => Ok(()),
     }

@@ -5,6 +5,8 @@ use mathlib.Core.List.{List}
 use lib.IntN.{ℤ}
 use lib.Signed.{mag}
 use Rattle.std.specs.Written.{decimal, signed}
+use Rattle.std.specs.declared.option.Option.{Option}
+use Rattle.std.specs.declared.option.Option.the-variants.{Some, None}
 use Rattle.grammar.specs.declared.words.Use.{Use}
 use Rattle.grammar.specs.declared.words.Use.the-variants.{Bracket, Head, Test, Number, Literal}
 use Rattle.grammar.specs.declared.words.NumberUse.{NumberUse}
@@ -25,6 +27,11 @@ longest-delay = 86400000
 -- the bytes write a number up to max
 abbrev pub Number-upto : ℕ → List ℕ → Type 0
 Number-upto max bs = (n : ℕ) × (n ≤ max) × (bs ≡ decimal n)
+
+-- the number up to max that the bytes write, if they write one
+abbrev pub Upto-read : ℕ → List ℕ → Option ℕ → Type 0
+Upto-read max bs (Some n) = (n ≤ max) × (bs ≡ decimal n)
+Upto-read max bs None = Number-upto max bs → ⊥
 
 -- the bytes write a signed number of 32 bits
 abbrev pub Signed-number : List ℕ → Type 0

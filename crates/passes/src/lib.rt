@@ -4,5 +4,5 @@
 pub mod limits;
 pub mod literals;
 pub mod names;
-mod parts;
+pub mod parts;
 pub mod ranges;

@@ -7,10 +7,5 @@ use tokens::token::Token;
 pub fn bytes_of(token: Token<'_>) -> &[u8]
     ensures { λ r. ⌜ now r ≡ bytes-in (lexeme (token .entry)) ⌝ }
 {
-    match token {
-        Token::Integer { text, .. } => text,
-        Token::Word { text, .. } => text,
-        Token::Open { .. } => &[],
-        Token::Close { .. } => &[],
-    }
+    token.bytes()
 }

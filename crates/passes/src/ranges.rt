@@ -1,12 +1,8 @@
-ghost use mathlib.Core.Path.{_≡_};
-ghost use Prim.Native.Nat.{_≤_};
-ghost use Rattle.std.specs.Written.{decimal};
 ghost use Rattle.std.specs.Orderings.{Decides};
-ghost use Rattle.std.specs.declared.option.Option.the-variants.{Some, None};
 ghost use Rattle.tokens.specs.Places.{Smallest};
 ghost use Rattle.tokens.specs.Reading.{lexeme};
 ghost use Rattle.passes.specs.Parts.{parts-of, bytes-in};
-ghost use Rattle.passes.specs.Ranges.{Number-upto, Signed-number, In-range, Ranged, Out-of-range};
+ghost use Rattle.passes.specs.Ranges.{Upto-read, Signed-number, In-range, Ranged, Out-of-range};
 use crate::parts::bytes_of;
 use grammar::words::NumberUse;
 use grammar::words::Use;
@@ -25,7 +21,7 @@ const LONGEST_DELAY: u32 = 86_400_000;
 
 // The number up to `max` that the bytes write.
 pub fn number_upto(bytes: &[u8], max: u32) -> Option<u32>
-    ensures { λ r. ⌜ elim r [ Some n ↦ (n ≤ max) × (now (bytes .entry) ≡ decimal n) | None ↦ (Number-upto max (now (bytes .entry)) → ⊥) ] ⌝ }
+    ensures { λ r. ⌜ Upto-read max (now (bytes .entry)) r ⌝ }
 {
     let (length, n) = leading_number(bytes, max);
     if length > 0 && length == bytes.len() {

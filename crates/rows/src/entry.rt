@@ -10,11 +10,12 @@ use grammar::words::LiteralUse;
 use grammar::words::NumberUse;
 use grammar::words::PortKind;
 use grammar::words::Use;
-use message::decimal::leading_number;
 use message::kind::Message;
 use message::literal::Literal;
 use message::weight::Weight;
 use message::weight_kind::WeightLiteral;
+use passes::parts::bytes_of;
+use passes::ranges::number_upto;
 use tokens::token::Token;
 
 const LAST_PORT: u8 = 15;
@@ -34,22 +35,11 @@ pub enum Entry<M> {
     Node(Node<M>),
 }
 
-// The bytes of an integer or a word, none for a bracket.
-fn bytes<'a>(token: Token<'a>) -> &'a [u8]
-    ensures { λ r. ⌜ now r ≡ bytes-in (lexeme (token .entry)) ⌝ }
-{
-    match token {
-        Token::Open { .. } | Token::Close { .. } => &[],
-        Token::Integer { text, .. } | Token::Word { text, .. } => text,
-    }
-}
-
 // The number up to `max` that the bytes write.
 fn read_number(bytes: &[u8], max: u32) -> Option<u32>
     ensures { λ r. ⌜ Number-read max (now (bytes .entry)) r ⌝ }
 {
-    let (length, n) = leading_number(bytes, max);
-    if length > 0 && length == bytes.len() { Some(n) } else { None }
+    number_upto(bytes, max)
 }
 
 // The same for a number of one byte.
@@ -122,8 +112,8 @@ impl<M: Message> Entry<M> {
             Use::Bracket(bracket) => Some(bracket_entry(bracket)),
             Use::Head(word) => Some(head_entry(word)),
             Use::Test(sign) => Some(Entry::Node(Node::Guard(sign))),
-            Use::Number(number) => number_entry(number, bytes(token)),
-            Use::Literal(literal) => literal_entry(literal, bytes(token)),
+            Use::Number(number) => number_entry(number, bytes_of(token)),
+            Use::Literal(literal) => literal_entry(literal, bytes_of(token)),
         }
     }
 }
