@@ -19,7 +19,10 @@ pub impl fmt::Display for Counts as CountsDisplay {
         let mvars = self.mvars;
         let bodies = self.bodies;
         let events = self.events;
-        write!(f, "channels {channels}, mailboxes {mailboxes}, ivars {ivars}, mvars {mvars}, bodies {bodies}, events {events}")
+        write!(
+            f,
+            "channels {channels}, mailboxes {mailboxes}, ivars {ivars}, mvars {mvars}, bodies {bodies}, events {events}"
+        )
     }
 }
 
@@ -83,7 +86,12 @@ fn print_inner(rt: &impl Print, fault: Fault) -> io::Result<()> {
     }
 }
 
-pub fn print_verdict(rt: &impl Print, kind: &str, text: &[u8], verdict: Result<Counts, Fault>) -> io::Result<()> {
+pub fn print_verdict(
+    rt: &impl Print,
+    kind: &str,
+    text: &[u8],
+    verdict: Result<Counts, Fault>,
+) -> io::Result<()> {
     match verdict {
         Ok(counts) => println!(rt, "accepted for {kind}: {counts}"),
         Err(fault) => {

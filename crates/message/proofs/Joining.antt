@@ -51,8 +51,9 @@ joined-one one b two free left right i j e =
 
 pub joined-plain : (xs : List ℕ) (b : ℕ) (ys : List ℕ) → Plain xs → Plain-byte b → Plain ys → Plain (xs ++ (b ∷ ys))
 joined-plain xs b ys h p k = record {
-    some = omega (arith, h .some, length-append xs (b ∷ ys));
-    bytes = all-append Plain-byte xs (b ∷ ys) (h .bytes) (p, k .bytes) }
+  some = omega (arith, h .some, length-append xs (b ∷ ys));
+  bytes = all-append Plain-byte xs (b ∷ ys) (h .bytes) (p, k .bytes);
+}
 
 -- The left part and the separator are there: the right part decides.
 
@@ -65,11 +66,11 @@ right-longest one two b free s t x k e l =
     longest-by s (n + 1 + k) (omega (arith, l .within))
     (record { left = x; right = l .begins .0 }, l .begins .1, ap (λ y. y ++ l .begins .1) (front k) ∙ append-assoc (one x) (b ∷ take k t) (l .begins .1) ∙ ap (λ y. one x ++ (b ∷ y)) (l .begins .2))
     (λ i h le q.
-        let d : ℕ = i - (n + 1) in
-        let z : i ≡ n + 1 + d = omega arith in
-        let p = cut-once (one x) (one (q .0 .left)) b (take d t ++ q .1) (two (q .0 .right)) (free x) (free (q .0 .left))
-            (sym (append-assoc (one x) (b ∷ take d t) (q .1)) ∙ ap (λ y. y ++ q .1) (sym (front d) ∙ ap (λ v. take v s) (sym z)) ∙ q .2) in
-        omega (arith, l .most d (omega arith) (q .0 .right, q .1, p .1)))
+    let d : ℕ = i - (n + 1) in
+    let z : i ≡ n + 1 + d = omega arith in
+    let p = cut-once (one x) (one (q .0 .left)) b (take d t ++ q .1) (two (q .0 .right)) (free x) (free (q .0 .left))
+    (sym (append-assoc (one x) (b ∷ take d t) (q .1)) ∙ ap (λ y. y ++ q .1) (sym (front d) ∙ ap (λ v. take v s) (sym z)) ∙ q .2) in
+    omega (arith, l .most d (omega arith) (q .0 .right, q .1, p .1)))
 
 right-found : {A B : Type 0} (one : A → List ℕ) (two : B → List ℕ) (b : ℕ) → ((x : A) → Free b (one x))
     → (s t : List ℕ) (x : A) (k : ℕ) → s ≡ one x ++ (b ∷ t) → ((y : B) → take k t ≡ two y → ⊥)
@@ -90,11 +91,13 @@ right-by : {A B : Type 0} (one : A → List ℕ) (two : B → List ℕ) (b : ℕ
     → (s t : List ℕ) (x : A) (k : ℕ) (o : Option B) → s ≡ one x ++ (b ∷ t) → Longest two t k → Found two (take k t) o
     → Leads (joined one b two) s (record { length = length (one x) + 1 + k; value = with-left x o })
 right-by one two b free s t x k (Some y) e longest found = record {
-    longest = right-longest one two b free s t x k e longest;
-    found = ap (take (length (one x) + 1 + k)) e ∙ take-over (one x) b t k ∙ ap (λ v. one x ++ (b ∷ v)) found }
+  longest = right-longest one two b free s t x k e longest;
+  found = ap (take (length (one x) + 1 + k)) e ∙ take-over (one x) b t k ∙ ap (λ v. one x ++ (b ∷ v)) found;
+}
 right-by one two b free s t x k None e longest found = record {
-    longest = right-longest one two b free s t x k e longest;
-    found = right-found one two b free s t x k e found }
+  longest = right-longest one two b free s t x k e longest;
+  found = right-found one two b free s t x k e found;
+}
 
 pub right-decides : {A B : Type 0} (one : A → List ℕ) (two : B → List ℕ) (b : ℕ) → ((x : A) → Free b (one x))
     → (s : List ℕ) (n : ℕ) (x : A) (l : Lead B) → take n s ≡ one x → n < length s → getD s n 0 ≡ b
@@ -117,29 +120,32 @@ past one b s n l bare free lt x ge (c ∷ r) rest two e f =
     let e′ : one x ++ (b ∷ r) ≡ take (n + 1) s = ap (λ v. one x ++ (v ∷ r)) cb ∙ e in
     let cut : take n s ≡ take n (one x ++ (b ∷ r)) = sym (take-take n (n + 1) s (omega arith)) ∙ ap (take n) (sym e′) in
     elim (cases-lt (length (one x)) n) [
-      inl less ↦ let i : ℕ = n - (length (one x) + 1) in
-                 let z : n ≡ length (one x) + 1 + i = omega arith in
-                 let t : take n s ≡ one x ++ (b ∷ take i r) = cut ∙ ap (λ v. take v (one x ++ (b ∷ r))) z ∙ take-over (one x) b r i in
-                 free (l .begins .0) (one x) (take i r ++ l .begins .1) (sym (l .begins .2) ∙ ap (λ v. v ++ l .begins .1) t ∙ append-assoc (one x) (b ∷ take i r) (l .begins .1))
-    | inr more ↦ let z : length (one x) ≡ n = omega arith in
-                 bare x (cut ∙ take-at (one x) (b ∷ r) n z) lt (sym (getD-take (n + 1) s n 0 (omega arith)) ∙ ap (λ v. getD v n 0) (sym e′) ∙ getD-at (one x) b r 0 n z) ]
+      | inl less ↦ let i : ℕ = n - (length (one x) + 1) in
+          let z : n ≡ length (one x) + 1 + i = omega arith in
+          let t : take n s ≡ one x ++ (b ∷ take i r) = cut ∙ ap (λ v. take v (one x ++ (b ∷ r))) z ∙ take-over (one x) b r i in
+          free (l .begins .0) (one x) (take i r ++ l .begins .1) (sym (l .begins .2) ∙ ap (λ v. v ++ l .begins .1) t ∙ append-assoc (one x) (b ∷ take i r) (l .begins .1))
+      | inr more ↦ let z : length (one x) ≡ n = omega arith in
+          bare x (cut ∙ take-at (one x) (b ∷ r) n z) lt (sym (getD-take (n + 1) s n 0 (omega arith)) ∙ ap (λ v. getD v n 0) (sym e′) ∙ getD-at (one x) b r 0 n z)
+    ]
 
 -- with some right part, so that what begins a left part begins a whole
 pub left-decides : {A B : Type 0} (one : A → List ℕ) (two : B → List ℕ) (b : ℕ) → ((x : A) → Free b (one x)) → B
     → (s : List ℕ) (n : ℕ) → Longest one s n → ((x : A) → take n s ≡ one x → n < length s → getD s n 0 ≡ b → ⊥)
     → Leads (joined one b two) s (record { length = n; value = None })
 left-decides one two b free some s n l bare = record {
-    longest = longest-by s n (l .within)
-        (record { left = l .begins .0; right = some }, l .begins .1 ++ (b ∷ two some), sym (append-assoc (take n s) (l .begins .1) (b ∷ two some)) ∙ ap (λ v. v ++ (b ∷ two some)) (l .begins .2))
-        (λ i h le q.
-            let w = begins-shorter s i (n + 1) (omega arith) q in
-            let x = w .0 .left in
-            let f : take (n + 1) s ++ w .1 ≡ one x ++ (b ∷ two (w .0 .right)) = w .2 in
-            let long : length (take (n + 1) s) ≡ n + 1 = length-take-le (n + 1) s (omega arith) in
-            elim (cases-lt n (length (one x))) [
-              inl lt ↦ let p = shorter-front (take (n + 1) s) (one x) (w .1) (b ∷ two (w .0 .right)) f (omega arith) in
-                       omega (arith, l .most (n + 1) (omega arith) (x, p .0, p .1))
-            | inr ge ↦ let p = shorter-front (one x) (take (n + 1) s) (b ∷ two (w .0 .right)) (w .1) (sym f) (omega arith) in
-                       past one b s n l bare free (omega arith) x ge (p .0) (w .1) (two (w .0 .right)) (p .1) (p .2) ]);
-    found = λ m e.
-        free (l .begins .0) (one (m .left)) (two (m .right) ++ l .begins .1) (sym (l .begins .2) ∙ ap (λ v. v ++ l .begins .1) e ∙ append-assoc (one (m .left)) (b ∷ two (m .right)) (l .begins .1)) }
+  longest = longest-by s n (l .within)
+      (record { left = l .begins .0; right = some }, l .begins .1 ++ (b ∷ two some), sym (append-assoc (take n s) (l .begins .1) (b ∷ two some)) ∙ ap (λ v. v ++ (b ∷ two some)) (l .begins .2))
+      (λ i h le q.
+      let w = begins-shorter s i (n + 1) (omega arith) q in
+      let x = w .0 .left in
+      let f : take (n + 1) s ++ w .1 ≡ one x ++ (b ∷ two (w .0 .right)) = w .2 in
+      let long : length (take (n + 1) s) ≡ n + 1 = length-take-le (n + 1) s (omega arith) in
+      elim (cases-lt n (length (one x))) [
+        | inl lt ↦ let p = shorter-front (take (n + 1) s) (one x) (w .1) (b ∷ two (w .0 .right)) f (omega arith) in
+            omega (arith, l .most (n + 1) (omega arith) (x, p .0, p .1))
+        | inr ge ↦ let p = shorter-front (one x) (take (n + 1) s) (b ∷ two (w .0 .right)) (w .1) (sym f) (omega arith) in
+            past one b s n l bare free (omega arith) x ge (p .0) (w .1) (two (w .0 .right)) (p .1) (p .2)
+      ]);
+  found = λ m e.
+      free (l .begins .0) (one (m .left)) (two (m .right) ++ l .begins .1) (sym (l .begins .2) ∙ ap (λ v. v ++ l .begins .1) e ∙ append-assoc (one (m .left)) (b ∷ two (m .right)) (l .begins .1));
+}

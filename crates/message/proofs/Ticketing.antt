@@ -41,9 +41,10 @@ ticket-short t =
 
 as-longest : (s : List ℕ) (k : ℕ) → Longest (joined weight-literal 47 weight-literal) s k → Longest ticket-literal s k
 as-longest s k l = record {
-    within = l .within;
-    begins = (ticket (l .begins .0), l .begins .1, l .begins .2);
-    most = λ j le w. l .most j le (ticket-parts (w .0), w .1, w .2) }
+  within = l .within;
+  begins = (ticket (l .begins .0), l .begins .1, l .begins .2);
+  most = λ j le w. l .most j le (ticket-parts (w .0), w .1, w .2);
+}
 
 abbrev pub ticket-of : Option (Joined Weight Weight) → Option Ticket
 ticket-of (Some j) = Some (ticket j)

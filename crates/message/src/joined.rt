@@ -45,16 +45,28 @@ impl<A: Literal, B: Message> Joined<A, B> {
         let first = A::lead(s);
         let n = first.length;
         let Some(left) = first.value else {
-            return Lead { length: n, value: None };
+            return Lead {
+                length: n,
+                value: None,
+            };
         };
         if n >= s.len() || s[n] != separator {
-            return Lead { length: n, value: None };
+            return Lead {
+                length: n,
+                value: None,
+            };
         }
         let second = B::lead(&s[n + 1..]);
         let length = n + 1 + second.length;
         match second.value {
-            Some(right) => Lead { length, value: Some(Joined { left, right }) },
-            None => Lead { length, value: None },
+            Some(right) => Lead {
+                length,
+                value: Some(Joined { left, right }),
+            },
+            None => Lead {
+                length,
+                value: None,
+            },
         }
     }
 }

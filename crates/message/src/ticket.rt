@@ -23,7 +23,10 @@ impl Ticket {
     fn parts(self) -> Joined<Weight, Weight>
         ensures { λ r. ⌜ r ≡ ticket-parts self ⌝ }
     {
-        Joined { left: self.gross, right: self.tare }
+        Joined {
+            left: self.gross,
+            right: self.tare,
+        }
     }
 }
 
@@ -42,8 +45,17 @@ pub impl Literal for Ticket as TicketLiteral {
         let both = Joined::<Weight, Weight>::lead(b'/', s);
         let length = both.length;
         match both.value {
-            Some(parts) => Lead { length, value: Some(Ticket { gross: parts.left, tare: parts.right }) },
-            None => Lead { length, value: None },
+            Some(parts) => Lead {
+                length,
+                value: Some(Ticket {
+                    gross: parts.left,
+                    tare: parts.right,
+                }),
+            },
+            None => Lead {
+                length,
+                value: None,
+            },
         }
     }
 }
@@ -56,11 +68,17 @@ pub impl Message for Ticket as TicketMessage {
     ghost signOf = { ticket-sign };
 
     fn blank() -> Self {
-        Ticket { gross: Weight::blank(), tare: Weight::blank() }
+        Ticket {
+            gross: Weight::blank(),
+            tare: Weight::blank(),
+        }
     }
 
     fn add(self, k: i32) -> Self {
-        Ticket { gross: self.gross, tare: self.tare.add(k) }
+        Ticket {
+            gross: self.gross,
+            tare: self.tare.add(k),
+        }
     }
 
     fn sign(self) -> Sign {

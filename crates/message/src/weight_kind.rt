@@ -25,10 +25,16 @@ fn leading_negative(s: &[u8]) -> Lead<Weight>
 {
     let (k, n) = leading_number(&s[1..], 2147483648);
     if n == 0 {
-        return Lead { length: 1, value: None };
+        return Lead {
+            length: 1,
+            value: None,
+        };
     }
     let less = (n - 1) as i32;
-    Lead { length: k + 1, value: Some(Weight { value: -1 - less }) }
+    Lead {
+        length: k + 1,
+        value: Some(Weight { value: -1 - less }),
+    }
 }
 
 impl Weight {
@@ -66,9 +72,15 @@ pub impl Literal for Weight as WeightLiteral {
         }
         let (length, n) = leading_number(s, 2147483647);
         if length == 0 {
-            return Lead { length, value: None };
+            return Lead {
+                length,
+                value: None,
+            };
         }
-        Lead { length, value: Some(Weight { value: n as i32 }) }
+        Lead {
+            length,
+            value: Some(Weight { value: n as i32 }),
+        }
     }
 }
 
@@ -84,7 +96,9 @@ pub impl Message for Weight as WeightMessage {
     }
 
     fn add(self, k: i32) -> Self {
-        Weight { value: self.value.saturating_add(k) }
+        Weight {
+            value: self.value.saturating_add(k),
+        }
     }
 
     fn sign(self) -> Sign {

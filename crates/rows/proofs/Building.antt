@@ -59,9 +59,10 @@ pub record So-far {M : Type 0} (literal : M → List ℕ) (ks : List Token) (us 
 
 pub so-far-none : {M : Type 0} (literal : M → List ℕ) (ks : List Token) (us : List Use) (left : List (Token × Use)) (t : Table M) → left ≡ zipped ks us → t ≡ blank-table → So-far literal ks us left t
 so-far-none {M} literal ks us left t all e = record {
-    before = [];
-    all = ap pairs-parts all ∙ zipped-parts ks us;
-    adds = λ clear. let P : Table M → Type 0 = λ u. Adds literal [] blank-table u in subst P (sym e) (none literal) }
+  before = [];
+  all = ap pairs-parts all ∙ zipped-parts ks us;
+  adds = λ clear. let P : Table M → Type 0 = λ u. Adds literal [] blank-table u in subst P (sym e) (none literal);
+}
 
 -- a part that is clear adds its entry
 added : {M : Type 0} (literal : M → List ℕ) (p : Part) (t u : Table M) → Clear literal p → Part-added literal (p .purpose) (bytes p) t u → Adds literal (p ∷ []) t u
@@ -78,8 +79,9 @@ so-far-more {M} literal ks us left rest k u t v e adds-part h =
       before = h .before ++ (p ∷ []);
       all = append-assoc (h .before) (p ∷ []) (pairs-parts rest) ∙ here;
       adds = λ clear.
-        let P : List Part → Type 0 = λ ps. All (Clear literal) ps in
-        adds-append literal (h .adds clear) (added literal p t v (all-middle (Clear literal) (h .before) p (pairs-parts rest) (subst P (sym here) clear)) adds-part) }
+          let P : List Part → Type 0 = λ ps. All (Clear literal) ps in
+          adds-append literal (h .adds clear) (added literal p t v (all-middle (Clear literal) (h .before) p (pairs-parts rest) (subst P (sym here) clear)) adds-part);
+    }
 
 -- a table that all parts of a script have made holds the script
 script-built : {M : Type 0} (literal : M → List ℕ) → ((a b : M) → literal a ≡ literal b → a ≡ b) → (ps : List Part) (r : Rows M) → Adds literal ps blank-table (table r) → (raw : g.Raw) → g.raw-parts raw ≡ ps → Built literal ps r

@@ -43,12 +43,13 @@ or-first None x z = refl
 
 found-on : {X : Type 0} (slots : List (Option X)) (n k : ℕ) (x : X) (z : Option X) → n < length slots → or-else (getD (declared slots n x) k None) z ≡ or-else (getD slots k None) (cond (eqb n k) (Some x) z)
 found-on slots n k x z h = elim (cases-eq n k) [
-      inl e ↦ ap (λ j. or-else (getD (declared slots n x) j None) z) (sym e)
-              ∙ ap (λ o. or-else o z) (getD-set-same slots n (first-of (getD slots n None) x) None h)
-              ∙ or-first (getD slots n None) x z
-              ∙ ap₂ (λ j c. or-else (getD slots j None) (cond c (Some x) z)) e (sym (eq-eqb n k e))
-    | inr ne ↦ ap (λ o. or-else o z) (getD-set-other slots n k (first-of (getD slots n None) x) None (λ e. ne (sym e)))
-              ∙ ap (λ c. or-else (getD slots k None) (cond c (Some x) z)) (sym (ne-eqb n k ne)) ]
+  | inl e ↦ ap (λ j. or-else (getD (declared slots n x) j None) z) (sym e)
+      ∙ ap (λ o. or-else o z) (getD-set-same slots n (first-of (getD slots n None) x) None h)
+      ∙ or-first (getD slots n None) x z
+      ∙ ap₂ (λ j c. or-else (getD slots j None) (cond c (Some x) z)) e (sym (eq-eqb n k e))
+  | inr ne ↦ ap (λ o. or-else o z) (getD-set-other slots n k (first-of (getD slots n None) x) None (λ e. ne (sym e)))
+      ∙ ap (λ c. or-else (getD slots k None) (cond c (Some x) z)) (sym (ne-eqb n k ne))
+]
 
 ports-found : {M : Type 0} (ps : List (g.Port ℕ)) (t : Table M) → length (t .ports) ≡ 16 → All (λ p. p .number ≤ last-port) ps → (k : ℕ) → getD (after-ports t ps .ports) k None ≡ or-else (getD (t .ports) k None) (port-kind ps k)
 ports-found [] t l w k = sym (or-none (getD (t .ports) k None))
@@ -107,9 +108,12 @@ regrouped a b z c = simp append-assoc
 longer : {M : Type 0} (bs : List (s.Body M)) (t : Table M) → Longer t (after-bodies t bs)
 longer [] t = ([], [], sym (append-nil (t .instrs)), sym (append-nil (t .nodes)))
 longer (b ∷ bs) t =
-    let l = longer bs (after-body t b) in
-    (instrs-after (t .nodes) (b .instrs) ++ (instr.End ∷ l .0), instrs-nodes (b .instrs) ++ l .1,
-     l .2 ∙ regrouped (t .instrs) (instrs-after (t .nodes) (b .instrs)) instr.End (l .0), l .3 ∙ append-assoc (t .nodes) (instrs-nodes (b .instrs)) (l .1))
+    let l = longer bs (after-body t b) in (
+      instrs-after (t .nodes) (b .instrs) ++ (instr.End ∷ l .0),
+      instrs-nodes (b .instrs) ++ l .1,
+      l .2 ∙ regrouped (t .instrs) (instrs-after (t .nodes) (b .instrs)) instr.End (l .0),
+      l .3 ∙ append-assoc (t .nodes) (instrs-nodes (b .instrs)) (l .1),
+    )
 
 body-held : {M : Type 0} (b : s.Body M) (bs : List (s.Body M)) (t : Table M) → Instr-rows (after-bodies t (b ∷ bs) .nodes) (drop (length (t .instrs)) (after-bodies t (b ∷ bs) .instrs)) (b .instrs)
 body-held {M} b bs t =
@@ -117,15 +121,16 @@ body-held {M} b bs t =
     let P : List (Node M) → Type 0 = λ ns. Instr-rows ns (instrs-after (t .nodes) (b .instrs) ++ (instr.End ∷ l .0)) (b .instrs) in
     let Q : List Instr → Type 0 = λ is. Instr-rows (after-bodies t (b ∷ bs) .nodes) is (b .instrs) in
     let here : drop (length (t .instrs)) (after-bodies t (b ∷ bs) .instrs) ≡ instrs-after (t .nodes) (b .instrs) ++ (instr.End ∷ l .0) =
-          ap (drop (length (t .instrs))) (l .2 ∙ regrouped (t .instrs) (instrs-after (t .nodes) (b .instrs)) instr.End (l .0)) ∙ drop-at (t .instrs) _ (length (t .instrs)) refl in
+    ap (drop (length (t .instrs))) (l .2 ∙ regrouped (t .instrs) (instrs-after (t .nodes) (b .instrs)) instr.End (l .0)) ∙ drop-at (t .instrs) _ (length (t .instrs)) refl in
     subst Q (sym here) (subst P (sym (l .3)) (instrs-held (b .instrs) (t .nodes) (l .1) (l .0)))
 
 bodies-held : {M : Type 0} (bs : List (s.Body M)) (t : Table M) (k : ℕ) → Body-row (after-bodies t bs .nodes) (after-bodies t bs .instrs) (start-found t bs k) (find-body bs k)
 bodies-held [] t k = tt
 bodies-held (b ∷ bs) t k =
     elim (eqb (b .number) k) as (λ c. Body-row (after-bodies t (b ∷ bs) .nodes) (after-bodies t (b ∷ bs) .instrs) (cond c (Some (length (t .instrs))) (start-found (after-body t b) bs k)) (cond c (Some (b .instrs)) (find-body bs k))) [
-      true ↦ body-held b bs t
-    | false ↦ bodies-held bs (after-body t b) k ]
+      | true ↦ body-held b bs t
+      | false ↦ bodies-held bs (after-body t b) k
+    ]
 
 pub script-held : {M : Type 0} (x : s.Script M) → Within x → Held (after-script blank-table x) x
 script-held {M} x w =
@@ -133,12 +138,13 @@ script-held {M} x w =
     let none : t .starts ≡ blank-table {M = M} .starts = starts-kept (x .ports) blank-table in
     record {
       by-port = λ p h.
-        ap (λ ps. getD ps p None) (ports-kept (bodies x) t) ∙ ports-found (x .ports) blank-table refl (w .ports) p
-        ∙ ap (λ o. or-else o (port-kind (x .ports) p)) (getD-replicate 16 p None None h);
+          ap (λ ps. getD ps p None) (ports-kept (bodies x) t) ∙ ports-found (x .ports) blank-table refl (w .ports) p
+          ∙ ap (λ o. or-else o (port-kind (x .ports) p)) (getD-replicate 16 p None None h);
       by-body = λ b h.
-        let from : getD (after-script blank-table x .starts) b None ≡ start-found t (bodies x) b =
-              starts-found (bodies x) t (ap length none) (w .first, w .others) b
-              ∙ ap (λ ss. or-else (getD ss b None) (start-found t (bodies x) b)) none
-              ∙ ap (λ o. or-else o (start-found t (bodies x) b)) (getD-replicate 32 b None None h) in
-        let P : Option ℕ → Type 0 = λ o. Body-row (after-script blank-table x .nodes) (after-script blank-table x .instrs) o (find-body (bodies x) b) in
-        subst P (sym from) (bodies-held (bodies x) t b) }
+          let from : getD (after-script blank-table x .starts) b None ≡ start-found t (bodies x) b =
+          starts-found (bodies x) t (ap length none) (w .first, w .others) b
+          ∙ ap (λ ss. or-else (getD ss b None) (start-found t (bodies x) b)) none
+          ∙ ap (λ o. or-else o (start-found t (bodies x) b)) (getD-replicate 32 b None None h) in
+          let P : Option ℕ → Type 0 = λ o. Body-row (after-script blank-table x .nodes) (after-script blank-table x .instrs) o (find-body (bodies x) b) in
+          subst P (sym from) (bodies-held (bodies x) t b);
+    }

@@ -108,9 +108,11 @@ module _ {M : Type 0} (literal : M → List ℕ) where
   ports-of (p ∷ ps) h =
       let k = all-parts Known (g.port as-written p) (each (g.port as-written) ps) h in
       let n = k .0 .1 .1 .0 .0 in
-      let y = ports-of ps (k .1) in
-      (record { kind = p .kind; number = n .0 } ∷ y .0, (n .1, y .1),
-       ap₂ (λ b qs. form Open (port-word (p .kind)) (number (NewPort (p .kind)) b ∷ []) Close ++ qs) (sym (n .2)) (y .2))
+      let y = ports-of ps (k .1) in (
+        record { kind = p .kind; number = n .0 } ∷ y .0,
+        (n .1, y .1),
+        ap₂ (λ b qs. form Open (port-word (p .kind)) (number (NewPort (p .kind)) b ∷ []) Close ++ qs) (sym (n .2)) (y .2),
+      )
 
   pub script-of : (raw : g.Raw) → All Known (g.raw-parts raw) → (x : s.Script M) × Within x × (g.script (spelling literal) x ≡ g.raw-parts raw)
   script-of raw h =
@@ -118,6 +120,8 @@ module _ {M : Type 0} (literal : M → List ℕ) where
       let j = all-parts Known (g.body as-written (raw .first)) (each (g.body as-written) (raw .others)) (k .1) in
       let ps = ports-of (raw .ports) (k .0) in
       let b = body-of (raw .first) (j .0) in
-      let bs = bodies-of (raw .others) (j .1) in
-      (record { ports = ps .0; first = b .0; others = bs .0 }, record { ports = ps .1; first = b .1; others = bs .1 },
-       ap₂ (λ xs ys. xs ++ ys) (ps .2) (ap₂ (λ xs ys. xs ++ ys) (b .2) (bs .2)))
+      let bs = bodies-of (raw .others) (j .1) in (
+        record { ports = ps .0; first = b .0; others = bs .0 },
+        record { ports = ps .1; first = b .1; others = bs .1 },
+        ap₂ (λ xs ys. xs ++ ys) (ps .2) (ap₂ (λ xs ys. xs ++ ys) (b .2) (bs .2)),
+      )

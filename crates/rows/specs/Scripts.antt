@@ -1,7 +1,7 @@
 -- Scripts over messages: numbers as numbers, literals as messages.
 use Prim.Native.Nat.{ℕ, _≤_, _<_}
 use mathlib.Core.Path.{_≡_}
-use mathlib.Core.List.{List, [], _∷_}
+use mathlib.Core.List.{List}
 use lib.IntN.{ℤ}
 use lib.Signed.{mag}
 use Rattle.std.specs.Written.{decimal, signed}

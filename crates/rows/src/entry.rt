@@ -19,7 +19,9 @@ use passes::ranges::number_upto;
 use tokens::token::Token;
 
 const LAST_PORT: u8 = 15;
+
 const LAST_BODY: u8 = 31;
+
 const LONGEST_DELAY: u32 = 86400000;
 
 // What a part of a script adds to its rows.
@@ -81,26 +83,37 @@ fn head_entry<M>(word: Keyword) -> Entry<M>
 fn number_entry<M>(purpose: NumberUse, bytes: &[u8]) -> Option<Entry<M>>
     ensures { λ r. ⌜ Number-entry-read purpose (now (bytes .entry)) r ⌝ }
 {
-    Some(match purpose {
-        NumberUse::NewPort(kind) => Entry::Port { kind, number: read_name(bytes, LAST_PORT)? },
-        NumberUse::NewBody => Entry::Body { number: read_name(bytes, LAST_BODY)? },
-        NumberUse::SendPort => Entry::Node(Node::Send(read_name(bytes, LAST_PORT)?)),
-        NumberUse::RecvPort => Entry::Node(Node::Recv(read_name(bytes, LAST_PORT)?)),
-        NumberUse::SpawnBody => Entry::Instr(Instr::Spawn { body: read_name(bytes, LAST_BODY)? }),
-        NumberUse::NackBody => Entry::Node(Node::WithNack(read_name(bytes, LAST_BODY)?)),
-        NumberUse::Delay => Entry::Node(Node::Timeout(read_number(bytes, LONGEST_DELAY)?)),
-        NumberUse::Addend => Entry::Node(Node::Add(Weight::read(bytes).ok()?.value)),
-    })
+    Some(
+        match purpose {
+            NumberUse::NewPort(kind) => Entry::Port {
+                kind,
+                number: read_name(bytes, LAST_PORT)?,
+            },
+            NumberUse::NewBody => Entry::Body {
+                number: read_name(bytes, LAST_BODY)?,
+            },
+            NumberUse::SendPort => Entry::Node(Node::Send(read_name(bytes, LAST_PORT)?)),
+            NumberUse::RecvPort => Entry::Node(Node::Recv(read_name(bytes, LAST_PORT)?)),
+            NumberUse::SpawnBody => Entry::Instr(Instr::Spawn {
+                body: read_name(bytes, LAST_BODY)?,
+            }),
+            NumberUse::NackBody => Entry::Node(Node::WithNack(read_name(bytes, LAST_BODY)?)),
+            NumberUse::Delay => Entry::Node(Node::Timeout(read_number(bytes, LONGEST_DELAY)?)),
+            NumberUse::Addend => Entry::Node(Node::Add(Weight::read(bytes).ok()?.value)),
+        },
+    )
 }
 
 fn literal_entry<M: Message>(purpose: LiteralUse, bytes: &[u8]) -> Option<Entry<M>>
     ensures { λ r. ⌜ Literal-entry-read (M·Literal .literal) purpose (now (bytes .entry)) r ⌝ }
 {
     let message = M::read(bytes).ok()?;
-    Some(Entry::Node(match purpose {
-        LiteralUse::InAlways => Node::Always(message),
-        LiteralUse::InSet => Node::Set(message),
-    }))
+    Some(Entry::Node(
+        match purpose {
+            LiteralUse::InAlways => Node::Always(message),
+            LiteralUse::InSet => Node::Set(message),
+        },
+    ))
 }
 
 impl<M: Message> Entry<M> {

@@ -79,7 +79,12 @@ impl<M: Message> Rows<M> {
     fn blank(heap: Global) -> Rows<M>
         ensures { λ r. ⌜ table r ≡ blank-table ⌝ }
     {
-        Rows { ports: [None; 16], bodies: [None; 32], instrs: Vec::new(heap), nodes: Vec::new(heap) }
+        Rows {
+            ports: [None; 16],
+            bodies: [None; 32],
+            instrs: Vec::new(heap),
+            nodes: Vec::new(heap),
+        }
     }
 
     // The script of one body, which does nothing.
@@ -98,7 +103,10 @@ impl<M: Message> Rows<M> {
             Entry::Nothing => {}
             Entry::Port { kind, number } => declare(&mut self.ports, number, kind),
             Entry::Body { number } => declare(&mut self.bodies, number, self.instrs.len()),
-            Entry::Sync => self.instrs.push(Instr::Sync { from: self.nodes.len() })?,
+            Entry::Sync => self.instrs
+                .push(Instr::Sync {
+                    from: self.nodes.len(),
+                })?,
             Entry::Instr(instr) => self.instrs.push(instr)?,
             Entry::Node(node) => self.nodes.push(node)?,
         }

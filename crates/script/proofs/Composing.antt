@@ -55,8 +55,9 @@ same-rule r q e = sym (rule-back r) ∙ ap rule-at e ∙ rule-back q
 -- one rule more is kept
 pub kept-more : {M : Type 0} (literal : M → List ℕ) (text : List ℕ) (q : Rule) → Kept-below literal text (rule-number q) → Nowhere (Broken literal q text) → Kept-below literal text (rule-number q + 1)
 kept-more literal text q before here r lt = elim (cases-lt (rule-number r) (rule-number q)) [
-      inl less ↦ before r less
-    | inr more ↦ let e : q ≡ r = same-rule q r (omega arith) in let P : Rule → Type 0 = λ x. Nowhere (Broken literal x text) in subst P e here ]
+  | inl less ↦ before r less
+  | inr more ↦ let e : q ≡ r = same-rule q r (omega arith) in let P : Rule → Type 0 = λ x. Nowhere (Broken literal x text) in subst P e here
+]
 
 pub kept-none : {M : Type 0} (literal : M → List ℕ) (text : List ℕ) → Kept-below literal text 1
 kept-none literal text too-long lt = absurd (omega arith)
@@ -101,26 +102,31 @@ not-before : (ls : List Lexeme) (j k : ℕ) → Misfit-at ls j → Misfit-at ls 
 not-before ls j k m n lt = m .here (omega (arith, n .within)) (viable-take ls (j + 1) k (omega arith) (n .before))
 
 pub misfit-first : (text : List ℕ) (k : ℕ) → Misfit-at (lexemes text) k → First (Misfit text) (place-of (tokens text) (length text) k)
-misfit-first text k m =
-    ((k, m, refl), λ i (j, n, e). elim (cases-lt j k) [
-      inl lt ↦ absurd (not-before (lexemes text) j k n m lt)
-    | inr ge ↦ omega (arith, e, places-ordered text k j ge) ])
+misfit-first text k m = (
+  (k, m, refl),
+  λ i (j, n, e). elim (cases-lt j k) [
+    | inl lt ↦ absurd (not-before (lexemes text) j k n m lt)
+    | inr ge ↦ omega (arith, e, places-ordered text k j ge)
+  ],
+)
 
 pub no-misfit : (text : List ℕ) → Is-script (lexemes text) → Nowhere (Misfit text)
 no-misfit text s i (k, m, e) = elim (cases-lt k (length (lexemes text))) [
-      inl lt ↦ m .here lt (viable-part (lexemes text) (k + 1) s)
-    | inr ge ↦ m .missing (omega (arith, m .within)) s ]
+  | inl lt ↦ m .here lt (viable-part (lexemes text) (k + 1) s)
+  | inr ge ↦ m .missing (omega (arith, m .within)) s
+]
 
 -- Uses of tokens.
 
 -- what is first among the tokens is first in the text
 pub first-in-script : (text : List ℕ) (us : List Use) → Uses (lexemes text) us → (P : List Part → ℕ → Type 0) (k : ℕ) → First (P (with-uses us (lexemes text))) k → First (In-script P text) (place-of (tokens text) (length text) k)
-first-in-script text us u P k f =
-    (record { uses = us; used = u; token = k; holds = f .0; place = refl },
-     λ i w.
-        let e : w .uses ≡ us = uses-determined (lexemes text) (w .uses) us (w .used) u in
-        let Q : List Use → Type 0 = λ vs. P (with-uses vs (lexemes text)) (w .token) in
-        omega (arith, w .place, places-ordered text k (w .token) (f .1 (w .token) (subst Q e (w .holds)))))
+first-in-script text us u P k f = (
+  record { uses = us; used = u; token = k; holds = f .0; place = refl },
+  λ i w.
+      let e : w .uses ≡ us = uses-determined (lexemes text) (w .uses) us (w .used) u in
+      let Q : List Use → Type 0 = λ vs. P (with-uses vs (lexemes text)) (w .token) in
+      omega (arith, w .place, places-ordered text k (w .token) (f .1 (w .token) (subst Q e (w .holds)))),
+)
 
 pub nowhere-in-script : (text : List ℕ) (us : List Use) → Uses (lexemes text) us → (P : List Part → ℕ → Type 0) → Nowhere (P (with-uses us (lexemes text))) → Nowhere (In-script P text)
 nowhere-in-script text us u P none i w =
@@ -170,7 +176,8 @@ stage-literal literal text ks us f k at fault e longest =
       used = f .uses;
       token = k;
       place = e ∙ ap (λ ts. place-of ts (length text) k) (f .tokens .tokens-are);
-      longest = subst Q (tokens-lexemes text ks (f .tokens)) longest }
+      longest = subst Q (tokens-lexemes text ks (f .tokens)) longest;
+    }
 
 -- each token has a use
 pub formed-length : (text : List ℕ) (ks : List Token) (us : List Use) → Formed text ks us → length us ≤ length (map lexeme ks)

@@ -99,8 +99,9 @@ nought = refl
 
 pub empty-of : {M : Type 0} (literal : M → List ℕ) → Script-of literal (codes "(task 0)") empty-script
 empty-of literal = record {
-    within = record { ports = tt; first = (omega arith, tt); others = tt };
-    written = ap (λ bs. opening ∷ atom (codes "task") ∷ atom bs ∷ closing ∷ []) nought }
+  within = record { ports = tt; first = (omega arith, tt); others = tt };
+  written = ap (λ bs. opening ∷ atom (codes "task") ∷ atom bs ∷ closing ∷ []) nought;
+}
 
 -- An accepted text.
 
@@ -119,12 +120,14 @@ pub admitted : {M : Type 0} (literal : M → List ℕ) (text : List ℕ) (ks : L
 admitted literal text ks us t f kept copied builds =
     let same : map lexeme ks ≡ lexemes text = tokens-lexemes text ks (f .tokens) in
     let built = builds (f .uses .raw) (f .uses .written ∙ ap (with-uses us) (sym same))
-        (nowhere-back text ks us f Out-of-range (kept out-of-range (omega arith)))
-        (nowhere-back text ks us f (No-message literal) (kept no-message (omega arith))) in
+    (nowhere-back text ks us f Out-of-range (kept out-of-range (omega arith)))
+    (nowhere-back text ks us f (No-message literal) (kept no-message (omega arith))) in
     record {
       copy = ap or-new copied ∙ some-text text (uses-make-script (lexemes text) us (f .uses));
       script = built .script;
       of-text = record {
         within = built .within;
-        written = ap g.part-lexemes (built .written ∙ ap (with-uses us) same) ∙ lexemes-of us (lexemes text) (f .uses .long) };
-      held = built .holds }
+        written = ap g.part-lexemes (built .written ∙ ap (with-uses us) same) ∙ lexemes-of us (lexemes text) (f .uses .long);
+      };
+      held = built .holds;
+    }

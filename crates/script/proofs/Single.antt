@@ -56,8 +56,9 @@ decimal-natural n some f = natural (decimal n) (first-decimal n some f) (decimal
 
 decimal-integer : (n : ℕ) → n < 2 ^ 64 → Integer (decimal n)
 decimal-integer n f = elim (cases-lt 0 n) [
-      inl some ↦ inr (inl (decimal-natural n some f))
-    | inr none ↦ let e : n ≡ 0 = omega arith in inl (ap decimal e ∙ decimal-digit 0 (omega arith)) ]
+  | inl some ↦ inr (inl (decimal-natural n some f))
+  | inr none ↦ let e : n ≡ 0 = omega arith in inl (ap decimal e ∙ decimal-digit 0 (omega arith))
+]
 
 signed-integer : (z : ℤ) → mag z < 2147483648 → Integer (signed z)
 signed-integer (pos n) h = decimal-integer n (omega arith)
@@ -97,15 +98,17 @@ bounded literal = record { number = λ n. decimal (n .value); addend = weight-li
 
 bounded-injective : {M : Type 0} (literal : M → List ℕ) → ((a b : M) → literal a ≡ literal b → a ≡ b) → Injective (bounded literal)
 bounded-injective literal one = record {
-    number = λ m n e. same-small m n (same-from-decimal (m .value) (n .value) (omega (arith, m .fits)) (omega (arith, n .fits)) e);
-    addend = weight-one;
-    literal = one }
+  number = λ m n e. same-small m n (same-from-decimal (m .value) (n .value) (omega (arith, m .fits)) (omega (arith, n .fits)) e);
+  addend = weight-one;
+  literal = one;
+}
 
 bounded-proper : {M : Type 0} (literal : M → List ℕ) → ((a : M) → Plain (literal a)) → Proper (bounded literal)
 bounded-proper literal plain = record {
-    number = λ n. decimal-integer (n .value) (omega (arith, n .fits));
-    addend = λ k. signed-integer (k .value) (k .fits);
-    literal = λ m. plain-run (literal m) (plain m) }
+  number = λ n. decimal-integer (n .value) (omega (arith, n .fits));
+  addend = λ k. signed-integer (k .value) (k .fits);
+  literal = λ m. plain-run (literal m) (plain m);
+}
 
 -- A script of bounded numbers without the bounds.
 
@@ -234,6 +237,6 @@ one-script literal one plain text t u of-t of-u =
     let x = bound-script literal t (of-t .within) in
     let y = bound-script literal u (of-u .within) in
     let tokens : part-lexemes (g.script spell (x .0)) ≡ part-lexemes (g.script spell (y .0)) =
-        ap part-lexemes (x .2) ∙ of-t .written ∙ sym (ap part-lexemes (y .2) ∙ of-u .written) in
+    ap part-lexemes (x .2) ∙ of-t .written ∙ sym (ap part-lexemes (y .2) ∙ of-u .written) in
     let same = same-parts (g.script spell (x .0)) (g.script spell (y .0)) tokens (image-uses spell proper (x .0)) (image-uses spell proper (y .0)) in
     sym (x .1) ∙ ap bare-script (written-once spell (bounded-injective literal one) (x .0) (y .0) same) ∙ y .1

@@ -37,7 +37,12 @@ impl<'a> Text<'a> {
 }
 
 // Tries the rules that are beyond the form, and makes the rows where all are kept.
-fn admit<M: Message>(heap: Global, text: &[u8], tokens: &[Token<'_>], uses: &[Use]) -> Result<Checked<M>, Fault>
+fn admit<M: Message>(
+    heap: Global,
+    text: &[u8],
+    tokens: &[Token<'_>],
+    uses: &[Use],
+) -> Result<Checked<M>, Fault>
     ensures { λ r. ⌜ (Formed (now (text .entry)) (now (tokens .entry)) (now (uses .entry)) → Kept-below (M·Literal .literal) (now (text .entry)) 5 → Answers (M·Literal .literal) (now (text .entry)) r) ⌝ }
 {
     check_ranges(text, tokens, uses)?;

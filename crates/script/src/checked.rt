@@ -18,14 +18,21 @@ impl<M: Message> Checked<M> {
     pub fn new(heap: Global) -> Checked<M>
         ensures { λ r. ⌜ Means (M·Literal .literal) (codes "(task 0)") r ⌝ }
     {
-        Checked { text: Vec::new(heap), rows: Rows::empty(heap) }
+        Checked {
+            text: Vec::new(heap),
+            rows: Rows::empty(heap),
+        }
     }
 
     // The script's bytes.
     pub fn text(&self) -> &[u8]
         ensures { λ r. ⌜ now r ≡ checked-text (now (self .entry)) ⌝ }
     {
-        if self.text.is_empty() { b"(task 0)" } else { self.text.as_slice() }
+        if self.text.is_empty() {
+            b"(task 0)"
+        } else {
+            self.text.as_slice()
+        }
     }
 
     // The script in rows.

@@ -4,10 +4,10 @@ ghost use Rattle.script.specs.Faults.{fault-number, fault-place};
 use message::literal::LiteralFault;
 use message::literal::LiteralFaultDebug;
 use message::literal::LiteralFaultPartialEq;
+use std::alloc::AllocError;
 use tokens::text::TextFault;
 use tokens::text::TextFaultDebug;
 use tokens::text::TextFaultPartialEq;
-use std::alloc::AllocError;
 
 // The tokens are no script, or a number is out of its range.
 #[derive(Clone, Copy, Debug, PartialEq)]

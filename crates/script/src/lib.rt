@@ -1,6 +1,6 @@
 //! Checking a script: every refusal, and the table that an accepted script leaves.
-pub mod fault;
-pub mod checked;
 pub mod check;
+pub mod checked;
+pub mod fault;
 pub mod laws;
 mod stages;

@@ -32,7 +32,11 @@ use tokens::token::Token;
 pub fn place(text: &[u8], tokens: &[Token<'_>], token: usize) -> usize
     ensures { λ r. ⌜ r ≡ place-of (map placed (now (tokens .entry))) (length (now (text .entry))) token ⌝ }
 {
-    if token < tokens.len() { tokens[token].place() } else { text.len() }
+    if token < tokens.len() {
+        tokens[token].place()
+    } else {
+        text.len()
+    }
 }
 
 // What each token is there for.
@@ -42,7 +46,9 @@ pub fn form(heap: Global, text: &[u8], tokens: &[Token<'_>]) -> Result<Vec<Use>,
     match uses(heap, tokens) {
         Ok(found) => Ok(found),
         Err(fault) => match fault {
-            Unformed::Misfit { token } => Err(Fault::Form(FormFault::Misfit { at: place(text, tokens, token) })),
+            Unformed::Misfit { token } => Err(Fault::Form(FormFault::Misfit {
+                at: place(text, tokens, token),
+            })),
             Unformed::Memory => Err(Fault::Memory),
         },
     }
@@ -52,7 +58,9 @@ pub fn check_ranges(text: &[u8], tokens: &[Token<'_>], uses: &[Use]) -> Result<(
     ensures { λ r. ⌜ (Formed (now (text .entry)) (now (tokens .entry)) (now (uses .entry)) → Stage OutOfRange (In-script Out-of-range (now (text .entry))) r) ⌝ }
 {
     match first_out_of_range(tokens, uses) {
-        Some(token) => Err(FormFault::OutOfRange { at: place(text, tokens, token) }),
+        Some(token) => Err(FormFault::OutOfRange {
+            at: place(text, tokens, token),
+        }),
         None => Ok(()),
     }
 }
@@ -61,7 +69,9 @@ pub fn check_names(text: &[u8], tokens: &[Token<'_>], uses: &[Use]) -> Result<()
     ensures { λ r. ⌜ (Formed (now (text .entry)) (now (tokens .entry)) (now (uses .entry)) → Nowhere (In-script Out-of-range (now (text .entry))) → Stage Misnamed (In-script Misnamed-at (now (text .entry))) r) ⌝ }
 {
     match first_misnamed(tokens, uses) {
-        Some(token) => Err(NamesFault::Misnamed { at: place(text, tokens, token) }),
+        Some(token) => Err(NamesFault::Misnamed {
+            at: place(text, tokens, token),
+        }),
         None => Ok(()),
     }
 }
@@ -70,18 +80,27 @@ pub fn check_limits(text: &[u8], tokens: &[Token<'_>], uses: &[Use]) -> Result<(
     ensures { λ r. ⌜ (Formed (now (text .entry)) (now (tokens .entry)) (now (uses .entry)) → Stage OverLimit (In-script Over-limit (now (text .entry))) r) ⌝ }
 {
     match first_over_limit(uses) {
-        Some(token) => Err(NamesFault::OverLimit { at: place(text, tokens, token) }),
+        Some(token) => Err(NamesFault::OverLimit {
+            at: place(text, tokens, token),
+        }),
         None => Ok(()),
     }
 }
 
-pub fn check_literals<M: Message>(text: &[u8], tokens: &[Token<'_>], uses: &[Use]) -> Result<(), MessageFault>
+pub fn check_literals<M: Message>(
+    text: &[u8],
+    tokens: &[Token<'_>],
+    uses: &[Use],
+) -> Result<(), MessageFault>
     ensures { λ r. ⌜ (Formed (now (text .entry)) (now (tokens .entry)) (now (uses .entry)) → Literal-stage (M·Literal .literal) (now (text .entry)) (In-script (No-message (M·Literal .literal)) (now (text .entry))) r) ⌝ }
 {
     match first_refused_literal::<M>(tokens, uses) {
         Some(refused) => {
             let at = place(text, tokens, refused.token);
-            Err(MessageFault::InScript { at, fault: refused.fault })
+            Err(MessageFault::InScript {
+                at,
+                fault: refused.fault,
+            })
         }
         None => Ok(()),
     }

@@ -29,7 +29,13 @@ mod check_tests {
     }
 
     // The front, the piece so many times, and the back.
-    fn repeated(heap: Global, front: &[u8], piece: &[u8], times: usize, back: &[u8]) -> Result<Vec<u8>, AllocError> {
+    fn repeated(
+        heap: Global,
+        front: &[u8],
+        piece: &[u8],
+        times: usize,
+        back: &[u8],
+    ) -> Result<Vec<u8>, AllocError> {
         let mut text = Vec::new(heap);
         text.extend_from_slice(front)?;
         for _ in 0..times {
@@ -128,7 +134,13 @@ mod check_tests {
             (b"(task 0", b"(emit)", 64, b")", 391),
             (b"(task 0(sync(choose", b"(never)", 1023, b")))", 7180),
             (b"(task 0(sync(choose", b"(nack)", 16, b")))", 115),
-            (b"(task 0(sync(choose", b"(with-nack 0(never))", 4, b")))", 99),
+            (
+                b"(task 0(sync(choose",
+                b"(with-nack 0(never))",
+                4,
+                b")))",
+                99,
+            ),
         ];
         for (front, piece, most, back, place) in limits {
             let full = repeated(heap, front, piece, most, back)?;
@@ -158,7 +170,10 @@ mod check_tests {
         let heap = rt.alloc();
         let mut table: Checked<Weight> = Checked::new(heap);
         match check_script(heap, Text::new(b"(task 0(sync(always -0)))"), &mut table) {
-            Err(Fault::Message(MessageFault::InScript { at, fault })) => check_eq((at, fault.at), (20, 1)),
+            Err(Fault::Message(MessageFault::InScript { at, fault })) => check_eq(
+                (at, fault.at),
+                (20, 1),
+            ),
             _ => Err(Fail::new("not refused so")),
         }
     }

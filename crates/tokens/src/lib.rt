@@ -1,4 +1,4 @@
 //! The text of a script, and its tokens.
-pub mod text;
 pub mod integer;
+pub mod text;
 pub mod token;

@@ -32,7 +32,10 @@ mod lines {
         check(end <= 120)?;
         check_eq(&page[0..end], line)?;
         let mut again = [b'.'; 120];
-        check_eq(write_line(read_line::<Weight>(line)?, &mut again, 0), Ok(end))?;
+        check_eq(
+            write_line(read_line::<Weight>(line)?, &mut again, 0),
+            Ok(end),
+        )?;
         check_eq(again, page)
     }
 
@@ -45,33 +48,113 @@ mod lines {
     }
 
     fn check_event(event: Event<Weight>, line: &[u8]) -> Result<(), Fail> {
-        check_back(Record { seq: 7, ms: 1500, event }, line)
+        check_back(
+            Record {
+                seq: 7,
+                ms: 1500,
+                event,
+            },
+            line,
+        )
     }
 
     #[test]
     fn every_kind() -> Result<(), Fail> {
-        check_event(Event::Start { task: 1, body: 2, starter: 3, sync: 4 }, b"7,1500,start,1,2,3,4,,\r\n")?;
-        check_event(Event::Step { task: 1, place: 2, register: weight(-5) }, b"7,1500,step,1,2,,,,-5\r\n")?;
-        check_event(Event::Emit { task: 1, place: 2, register: weight(0) }, b"7,1500,emit,1,2,,,,0\r\n")?;
-        check_event(Event::Sync { task: 1, sync: 2, leaves: 3 }, b"7,1500,sync,1,2,3,,,\r\n")?;
-        check_event(Event::One { task: 1, sync: 2, leaf: 3, message: weight(60) }, b"7,1500,one,1,2,3,,,60\r\n")?;
-        let pair = Event::Pair { giver: 1, sync: 2, leaf: 3, taker_sync: 4, taker_leaf: 5, message: weight(600) };
+        check_event(
+            Event::Start {
+                task: 1,
+                body: 2,
+                starter: 3,
+                sync: 4,
+            },
+            b"7,1500,start,1,2,3,4,,\r\n",
+        )?;
+        check_event(
+            Event::Step {
+                task: 1,
+                place: 2,
+                register: weight(-5),
+            },
+            b"7,1500,step,1,2,,,,-5\r\n",
+        )?;
+        check_event(
+            Event::Emit {
+                task: 1,
+                place: 2,
+                register: weight(0),
+            },
+            b"7,1500,emit,1,2,,,,0\r\n",
+        )?;
+        check_event(
+            Event::Sync {
+                task: 1,
+                sync: 2,
+                leaves: 3,
+            },
+            b"7,1500,sync,1,2,3,,,\r\n",
+        )?;
+        check_event(
+            Event::One {
+                task: 1,
+                sync: 2,
+                leaf: 3,
+                message: weight(60),
+            },
+            b"7,1500,one,1,2,3,,,60\r\n",
+        )?;
+        let pair = Event::Pair {
+            giver: 1,
+            sync: 2,
+            leaf: 3,
+            taker_sync: 4,
+            taker_leaf: 5,
+            message: weight(600),
+        };
         check_event(pair, b"7,1500,pair,1,2,3,4,5,600\r\n")?;
         check_event(Event::Fire { task: 1, sync: 2 }, b"7,1500,fire,1,2,,,,\r\n")?;
         check_event(Event::End { task: 1 }, b"7,1500,end,1,,,,,\r\n")?;
-        check_event(Event::Post { port: 2, message: weight(-2147483648) }, b"7,1500,post,0,2,,,,-2147483648\r\n")?;
+        check_event(
+            Event::Post {
+                port: 2,
+                message: weight(-2147483648),
+            },
+            b"7,1500,post,0,2,,,,-2147483648\r\n",
+        )?;
         check_event(Event::Clock, b"7,1500,clock,0,,,,,\r\n")
     }
 
     #[test]
     fn numbers_at_their_ends() -> Result<(), Fail> {
-        let largest = Event::Pair { giver: TOP, sync: TOP, leaf: TOP, taker_sync: TOP, taker_leaf: TOP, message: weight(2147483647) };
+        let largest = Event::Pair {
+            giver: TOP,
+            sync: TOP,
+            leaf: TOP,
+            taker_sync: TOP,
+            taker_leaf: TOP,
+            message: weight(2147483647),
+        };
         check_back(
-            Record { seq: TOP, ms: 4294967295, event: largest },
+            Record {
+                seq: TOP,
+                ms: 4294967295,
+                event: largest,
+            },
             b"999999999,4294967295,pair,999999999,999999999,999999999,999999999,999999999,2147483647\r\n",
         )?;
-        let zeros = Event::Start { task: 0, body: 0, starter: 0, sync: 0 };
-        check_back(Record { seq: 1, ms: 0, event: zeros }, b"1,0,start,0,0,0,0,,\r\n")?;
+        let zeros = Event::Start {
+            task: 0,
+            body: 0,
+            starter: 0,
+            sync: 0,
+        };
+        check_back(
+            Record {
+                seq: 1,
+                ms: 0,
+                event: zeros,
+            },
+            b"1,0,start,0,0,0,0,,\r\n",
+        )?;
         let lines: [(&[u8], Result<(u32, u32), u32>); 16] = [
             (b"1,0,clock,0,,,,,\r\n", Ok((1, 0))),
             (b"0,0,clock,0,,,,,\r\n", Err(17)),
@@ -79,9 +162,15 @@ mod lines {
             (b"1000000000,0,clock,0,,,,,\r\n", Err(17)),
             (b"1,4294967295,clock,0,,,,,\r\n", Ok((1, 4294967295))),
             (b"1,4294967296,clock,0,,,,,\r\n", Err(17)),
-            (b"1,99999999999999999999999999999999,clock,0,,,,,\r\n", Err(17)),
+            (
+                b"1,99999999999999999999999999999999,clock,0,,,,,\r\n",
+                Err(17),
+            ),
             (b"1,0,end,999999999,,,,,\r\n", Ok((1, 0))),
-            (b"999999999,4294967295,end,999999999,,,,,\r\n", Ok((TOP, 4294967295))),
+            (
+                b"999999999,4294967295,end,999999999,,,,,\r\n",
+                Ok((TOP, 4294967295)),
+            ),
             (b"1,0,end,1000000000,,,,,\r\n", Err(17)),
             (b"1,0,pair,1,1000000000,1,1,1,0\r\n", Err(17)),
             (b"1,0,pair,1,1,1000000000,1,1,0\r\n", Err(17)),
@@ -167,9 +256,26 @@ mod lines {
     #[test]
     fn messages_of_a_kind() -> Result<(), Fail> {
         let line = b"1,0,post,0,2,,,,-5/7\r\n";
-        let ticket = Ticket { gross: weight(-5), tare: weight(7) };
+        let ticket = Ticket {
+            gross: weight(-5),
+            tare: weight(7),
+        };
         let mut page = [b'.'; 22];
-        check_eq(write_line(Record { seq: 1, ms: 0, event: Event::Post { port: 2, message: ticket } }, &mut page, 0), Ok(22))?;
+        check_eq(
+            write_line(
+                Record {
+                    seq: 1,
+                    ms: 0,
+                    event: Event::Post {
+                        port: 2,
+                        message: ticket,
+                    },
+                },
+                &mut page,
+                0,
+            ),
+            Ok(22),
+        )?;
         check_eq(page, *line)?;
         check(read_line::<Ticket>(line).is_ok())?;
         check_eq(read(line), Err(17))?;
@@ -180,7 +286,11 @@ mod lines {
 
     #[test]
     fn pages() -> Result<(), Fail> {
-        let clock: Record<Weight> = Record { seq: 1, ms: 0, event: Event::Clock };
+        let clock: Record<Weight> = Record {
+            seq: 1,
+            ms: 0,
+            event: Event::Clock,
+        };
         let mut short = [b'.'; 17];
         check_eq(write_line(clock, &mut short, 0), Err(PageFull))?;
         check_eq(short, [b'.'; 17])?;
@@ -214,7 +324,18 @@ mod lines {
     fn improper_records() -> Result<(), Fail> {
         let mut page = [b'.'; 40];
         let end: Event<Weight> = Event::End { task: 4294967295 };
-        check_eq(write_line(Record { seq: 0, ms: 0, event: end }, &mut page, 0), Ok(25))?;
+        check_eq(
+            write_line(
+                Record {
+                    seq: 0,
+                    ms: 0,
+                    event: end,
+                },
+                &mut page,
+                0,
+            ),
+            Ok(25),
+        )?;
         check_eq(&page[0..25], b"0,0,end,4294967295,,,,,\r\n")?;
         check_eq(read(&page[0..25]), Err(17))
     }

@@ -40,4 +40,5 @@ returns c =
     let P : List ℕ → Type 0 = λ s. Longest weight-literal s (k + 1) in
     record {
       longest = subst P (sym e) (rw add-one (minus-longest _ _ _ (c .leading-number-k .ensures) (omega arith)));
-      found = ap (take (k + 1)) e ∙ rw add-one (ap (λ y. 45 ∷ y) text) ∙ ap signed (sym v) }
+      found = ap (take (k + 1)) e ∙ rw add-one (ap (λ y. 45 ∷ y) text) ∙ ap signed (sym v);
+    }

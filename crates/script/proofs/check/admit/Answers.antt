@@ -44,4 +44,5 @@ returns g c = λ f kept.
     let kept₉ = kept-more (g .M·Literal .literal) (c .args .text .now) no-message kept₈ (c .in-Continue-check-literals .ensures tt f) in
     record {
       verdict = kept-all (g .M·Literal .literal) (c .args .text .now) kept₉;
-      means = admitted (g .M·Literal .literal) (c .args .text .now) (c .args .tokens .now) (c .args .uses .now) (record { text = c .in-Continue-copy .copy; rows = c .in-Continue-rows .rows }) f kept₉ (c .in-Continue-copy .ensures tt .made .0) (c .in-Continue-rows .ensures tt) }
+      means = admitted (g .M·Literal .literal) (c .args .text .now) (c .args .tokens .now) (c .args .uses .now) (record { text = c .in-Continue-copy .copy; rows = c .in-Continue-rows .rows }) f kept₉ (c .in-Continue-copy .ensures tt .made .0) (c .in-Continue-rows .ensures tt);
+    }

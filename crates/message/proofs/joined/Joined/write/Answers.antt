@@ -12,10 +12,11 @@ use Rattle.message.proofs.joined.Joined.write.Needs.{then-at-page·by·then-at
 
 pub returns-then-at-page : need.returns-then-at-page
 returns-then-at-page g c = elim (c .then-at-page .came) [
-      then-at-page·by·then-at-page w ↦ (omega (arith, w .if-at-page .taken), refl)
-    | then-at-page·by·else-at-page·then-is-none w ↦
-        let n = no-room _ _ (w .room-after .result) (w .is-none .ensures ∙ ap not (w .if-is-none .taken)) (w .room-after .ensures (c .args .separator)) in
-        (omega (arith, n, w .if-at-page .left), refl) ]
+  | then-at-page·by·then-at-page w ↦ (omega (arith, w .if-at-page .taken), refl)
+  | then-at-page·by·else-at-page·then-is-none w ↦
+      let n = no-room _ _ (w .room-after .result) (w .is-none .ensures ∙ ap not (w .if-is-none .taken)) (w .room-after .ensures (c .args .separator)) in
+      (omega (arith, n, w .if-at-page .left), refl)
+]
 
 pub returns-in-Break-middle : need.returns-in-Break-middle
 returns-in-Break-middle g c =
