@@ -1,4 +1,5 @@
 //! The grammar of scripts.
+#![tactic(auto)]
 pub mod form;
 mod items;
 pub mod laws;

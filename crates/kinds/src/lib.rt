@@ -1,4 +1,5 @@
 //! Base event kinds: what every kind shows, and the five delivered ones.
+#![tactic(auto)]
 pub mod buffer;
 pub mod channel;
 mod holder;

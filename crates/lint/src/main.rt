@@ -1,3 +1,4 @@
+#![tactic(auto)]
 mod input;
 mod show;
 mod verdict;

@@ -1,4 +1,5 @@
 //! Messages: what tasks send, receive and hold, and the literals in which they are written.
+#![tactic(auto)]
 pub mod decimal;
 mod joined;
 pub mod kind;

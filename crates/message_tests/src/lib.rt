@@ -1,3 +1,4 @@
+#![tactic(auto)]
 // Example messages: what is read, computed and written.
 #[cfg(test)]
 mod messages {

@@ -1,4 +1,5 @@
 //! Example scripts, and what check says of each.
+#![tactic(auto)]
 #[cfg(test)]
 mod check_tests {
     use message::kind::Message;

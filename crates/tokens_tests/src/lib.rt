@@ -1,4 +1,5 @@
 //! Example texts, what is said of each, and its tokens.
+#![tactic(auto)]
 #[cfg(test)]
 mod text_tests {
     use tokens::text::check_text;

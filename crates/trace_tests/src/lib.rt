@@ -1,3 +1,4 @@
+#![tactic(auto)]
 // Example lines: what is written of records, and what is read.
 #[cfg(test)]
 mod lines {

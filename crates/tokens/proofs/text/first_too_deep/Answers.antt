@@ -2,7 +2,7 @@ use Rattle.std.proofs.Common.{arith, below_more}
 use Rattle.std.proofs.lemmas.Bool.Decides.{nat_tests}
 use Rattle.tokens.proofs.Opening.{open_after_more}
 use Rattle.tokens.proofs.text.first_too_deep.Goals as goal
-use Rattle.tokens.proofs.text.first_too_deep.Goals.{in-40-2, in-41, in-default}
+use Rattle.tokens.proofs.text.first_too_deep.Goals.{in-40-2, in-41, in_default}
 
 pub loop-i-preserved : goal.loop-i-preserved
 loop-i-preserved c =
@@ -11,5 +11,5 @@ loop-i-preserved c =
     elim c.match-b.branch [
       | in-40-2 w ↦ (grind (arith, nat_tests), omega arith, below_more _ _ passed (λ h. omega arith))
       | in-41 w ↦ (grind (arith, nat_tests), omega arith, below_more _ _ passed (λ h. omega arith))
-      | in-default w ↦ (grind (arith, nat_tests), omega arith, below_more _ _ passed (λ h. grind arith))
+      | in_default w ↦ (grind (arith, nat_tests), omega arith, below_more _ _ passed (λ h. grind arith))
     ]

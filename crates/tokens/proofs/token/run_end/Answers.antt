@@ -13,12 +13,12 @@ not_run Run other = absurd (other refl)
 
 pub loop-end-preserved : goal.loop-end-preserved
 loop-end-preserved c =
-    let yes = ap is_runs (sym c.class-of.ensures ∙ ap meant c.if-eq.ensures) in
+    let yes = ap is_runs (sym c.class_of.ensures ∙ ap meant c.if-eq.ensures) in
     omega (arith, prefix_len-drop_yes in_run c.args.text.now c.loop-end.end 0 c.loop-end-test.true yes)
 
 pub returns-else-eq : goal.returns-else-eq
 returns-else-eq c =
-    let none = ap is_runs (sym c.class-of.ensures) ∙ not_run _ c.if-eq.ensures in
+    let none = ap is_runs (sym c.class_of.ensures) ∙ not_run _ c.if-eq.ensures in
     omega (arith, prefix_len-drop_no in_run c.args.text.now c.loop-end.end 0 c.loop-end-test.true none)
 
 pub returns-after-loop-end : goal.returns-after-loop-end

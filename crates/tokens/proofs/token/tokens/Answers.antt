@@ -11,7 +11,7 @@ pub loop-at-preserved-in-Separator : goal.loop-at-preserved-in-Separator
 loop-at-preserved-in-Separator c = skipped c.args.text.now c.loop-at.at _ c.loop-at-test.true (sym c.in-Separator.ensures) c.loop-at.invariant
 
 pub loop-at-preserved-in-Open : goal.loop-at-preserved-in-Open
-loop-at-preserved-in-Open c = opened c.args.text.now c.loop-at.at _ _ c.loop-at-test.true (sym c.in-Open.ensures) c.in-ok-push.ensures.items c.loop-at.invariant
+loop-at-preserved-in-Open c = opened c.args.text.now c.loop-at.at _ _ c.loop-at-test.true (sym c.in-Open.ensures) c.in_ok-push-in-Open.ensures.items c.loop-at.invariant
 
 pub loop-at-preserved-in-Close : goal.loop-at-preserved-in-Close
 loop-at-preserved-in-Close c = closed c.args.text.now c.loop-at.at _ _ c.loop-at-test.true (sym c.in-Close.ensures) c.in-ok-push-2.ensures.items c.loop-at.invariant
