@@ -1,4 +1,4 @@
-use Rattle.std.proofs.Common.{◌≡◌, false, sym, refl, ap, ◌∙◌, arith}
+use Rattle.std.proofs.Common.{◌≡◌, false, sym, refl, ap, ◌∙◌, arith, rules}
 use Rattle.std.proofs.lemmas.List.Sums.{prefix_len-drop_yes, prefix_len-drop_no, prefix_len-drop_all}
 use Rattle.tokens.specs.declared.token.Class.{Class}
 use Rattle.tokens.specs.declared.token.Class.TheVariants.{Separator, Open, Close, Run}
@@ -13,12 +13,14 @@ not_run Run other = absurd (other refl)
 
 pub loop-end-preserved : goal.loop-end-preserved
 loop-end-preserved c =
-    let yes = ap is_runs (sym c.class_of.ensures ∙ ap meant c.if-eq.ensures) in
+    let same : c.class_of.result ≡ Run = let h = c.if-eq.ensures in search rules in
+    let yes = ap is_runs (sym c.class_of.ensures ∙ ap meant same) in
     omega (arith, prefix_len-drop_yes in_run c.args.text.now c.loop-end.end 0 c.loop-end-test.true yes)
 
 pub returns-else-eq : goal.returns-else-eq
 returns-else-eq c =
-    let none = ap is_runs (sym c.class_of.ensures) ∙ not_run _ c.if-eq.ensures in
+    let other : c.class_of.result ≡ Run → ⊥ = let h = c.if-eq.ensures in search rules in
+    let none = ap is_runs (sym c.class_of.ensures) ∙ not_run _ other in
     omega (arith, prefix_len-drop_no in_run c.args.text.now c.loop-end.end 0 c.loop-end-test.true none)
 
 pub returns-after-loop-end : goal.returns-after-loop-end

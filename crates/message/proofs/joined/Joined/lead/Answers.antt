@@ -7,11 +7,11 @@ use Rattle.message.specs.Joining.{right_decides, left_decides, with_left}
 use Rattle.message.proofs.joined.Joined.lead.Goals as goal
 use Rattle.message.proofs.joined.Joined.lead.Goals.{then-n-s-via-then-n-s, then-n-s-via-else-n-s+then-s-n}
 
-pub returns-in-default : goal.returns-in-default
-returns-in-default g c =
+pub returns-in_default : goal.returns-in_default
+returns-in_default g c =
     let P : Option g.row.A.Denot → Type 0 = λ o. Found g.A.Literal.literal (take c.lead-first.result.length c.args.s.now) o in
     left_decides g.A.Literal.literal g.B.Literal.literal c.args.separator c.requires g.B.Message.initial c.args.s.now c.lead-first.result.length c.lead-first.ensures.longest
-    (λ x e lt b. subst P c.in-default.is c.lead-first.ensures.found x e)
+    (λ x e lt b. subst P c.in_default.is c.lead-first.ensures.found x e)
 
 pub returns-then-n-s : goal.returns-then-n-s
 returns-then-n-s g c =
