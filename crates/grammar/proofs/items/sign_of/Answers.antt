@@ -11,10 +11,10 @@ unfolding tested
 loop-sign-init c = refl
 
 pub loop-sign-preserved : goal.loop-sign-preserved
-loop-sign-preserved c = passed test_word signs _ c.loop-sign.sign-index _ _ _ _ c.loop-sign-test.true c.loop-sign.invariant c.test-spelling.ensures (slice_eq-Decides Decides-eqb _ _ _ c.eq.ensures) c.if-eq.false
+loop-sign-preserved c = passed test_word signs _ c.loop-sign.sign-index _ _ _ _ c.loop-sign-test.true c.loop-sign.invariant c.test_spelling.ensures (slice_eq-Decides Decides-eqb _ _ _ c.eq.ensures) c.if-eq.false
 
 pub returns-then-eq : goal.returns-then-eq
-returns-then-eq c = hit test_word signs _ c.loop-sign.sign-index _ _ _ _ c.loop-sign-test.true c.loop-sign.invariant c.test-spelling.ensures (slice_eq-Decides Decides-eqb _ _ _ c.eq.ensures) c.if-eq.true
+returns-then-eq c = hit test_word signs _ c.loop-sign.sign-index _ _ _ _ c.loop-sign-test.true c.loop-sign.invariant c.test_spelling.ensures (slice_eq-Decides Decides-eqb _ _ _ c.eq.ensures) c.if-eq.true
 
 pub returns : goal.returns
 returns c = missed test_word signs _ c.loop-sign.sign-index _ c.loop-sign-test.false c.loop-sign.invariant
