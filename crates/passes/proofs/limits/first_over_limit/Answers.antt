@@ -13,8 +13,8 @@ loop-i-preserved c =
       search rules,
       search rules,
       w.ahead,
-      tally_more w (tallied c.loop-i.tally) c.loop-i.invariant.3 (meant c.counted-as-in-loop-i.result) _ _ c.counted-as-in-loop-i.ensures c.count.ensures,
-      over_passed w (tallied c.loop-i.tally) c.loop-i.invariant.3 (meant c.counted-as.result) _ c.is-full-for.result c.counted-as.ensures c.is-full-for.ensures c.if-is-full-for.false c.loop-i.invariant.4,
+      tally_more w (tallied c.loop-i.tally) c.loop-i.invariant.3 (meant c.counted_as-in-loop-i.result) _ _ c.counted_as-in-loop-i.ensures c.count.ensures,
+      over_passed w (tallied c.loop-i.tally) c.loop-i.invariant.3 (meant c.counted_as.result) _ c.is_full_for.result c.counted_as.ensures c.is_full_for.ensures c.if-is_full_for.false c.loop-i.invariant.4,
     )
 
 pub count-requires : goal.count-requires
@@ -22,11 +22,11 @@ count-requires c =
     let w = here (goal.at.count-requires c).In-Some in
     room c.args.uses.now _ c.loop-i.tally c.loop-i.invariant.3 (omega (arith, w.fits, w.number))
 
-pub returns-then-is-full-for : goal.returns-then-is-full-for
-returns-then-is-full-for c =
-    let w = here (goal.at.returns-then-is-full-for c).In-Some in
+pub returns-then-is_full_for : goal.returns-then-is_full_for
+returns-then-is_full_for c =
+    let w = here (goal.at.returns-then-is_full_for c).In-Some in
     first_over c.args.uses.now (Some c.in-Some.i)
-    (over_here w (tallied c.loop-i.tally) c.loop-i.invariant.3 (meant c.counted-as.result) _ c.is-full-for.result c.counted-as.ensures c.is-full-for.ensures c.if-is-full-for.true c.loop-i.invariant.4)
+    (over_here w (tallied c.loop-i.tally) c.loop-i.invariant.3 (meant c.counted_as.result) _ c.is_full_for.result c.counted_as.ensures c.is_full_for.ensures c.if-is_full_for.true c.loop-i.invariant.4)
 
 pub returns : goal.returns
 returns c = first_over c.args.uses.now None (pairs_passed c.args.uses.now c.loop-i.i-iterator c.next.new.self c.loop-i.invariant.2 c.in-None.ensures.steps c.loop-i.invariant.4)

@@ -17,7 +17,7 @@ here g c = turn (parts_of c.args.tokens.now c.args.uses.now) c.loop-i.i-iterator
 pub loop-i-preserved : goal.loop-i-preserved
 loop-i-preserved g c =
     let w = here g (goal.at.loop-i-preserved g c).In-Some in
-    (search rules, search rules, w.ahead, part_passed w (Unwritten g.M.Literal.literal) c.loop-i.invariant.3 (λ q. q c.in-default.ensures))
+    (search rules, search rules, w.ahead, part_passed w (Unwritten g.M.Literal.literal) c.loop-i.invariant.3 (λ q. q c.in_default.ensures))
 
 pub returns-in-Err : goal.returns-in-Err
 returns-in-Err g c =

@@ -26,7 +26,7 @@ loop-i-preserved c =
         turn_passed w (Misnamed (parts_of c.args.tokens.now c.args.uses.now)) (c.loop-i.invariant.3 fair).1
             (named_well w fair c.declare.result c.lacks.result
             (again (goal.at.loop-i-preserved c).After-declare fair)
-            (names_nothing w fair c.all-declared-declared.result c.lacks.result c.lacks.ensures (c.all-declared-declared.ensures fair))
+            (names_nothing w fair c.all_declared-declared.result c.lacks.result c.lacks.ensures (c.all_declared-declared.ensures fair))
             c.if-declare.false c.if-lacks.false),
       ),
     )
@@ -36,18 +36,18 @@ returns-then-declare c =
     let w = here (goal.at.returns-then-declare c).In-Some in
     λ fair. turn_first w (Misnamed (parts_of c.args.tokens.now c.args.uses.now)) (c.loop-i.invariant.3 fair).1 (elim c.then-declare.branch [
       | then-declare-via-then-declare v ↦ inl ((again (goal.at.returns-then-declare c).After-declare fair).0 v.if-declare.true)
-      | then-declare-via-else-declare+then-lacks v ↦ inr (inl ((names_nothing w fair c.all-declared-declared.result v.lacks.result v.lacks.ensures (c.all-declared-declared.ensures fair)).0 v.if-lacks.true))
+      | then-declare-via-else-declare+then-lacks v ↦ inr (inl ((names_nothing w fair c.all_declared-declared.result v.lacks.result v.lacks.ensures (c.all_declared-declared.ensures fair)).0 v.if-lacks.true))
     ])
 
 pub returns-then-contains : goal.returns-then-contains
 returns-then-contains c =
     let ps = parts_of c.args.tokens.now c.args.uses.now in
     let end = ended ps c.loop-i.i-iterator c.next.new.self c.loop-i.invariant.2 c.in-None.ensures.steps in
-    λ fair. all_named_well ps (enumerate_count c.loop-i.i-iterator) c.all-declared-declared.result c.contains.result end (c.loop-i.invariant.3 fair).1 (c.all-declared-declared.ensures fair) c.contains.ensures c.if-contains.true
+    λ fair. all_named_well ps (enumerate_count c.loop-i.i-iterator) c.all_declared-declared.result c.contains.result end (c.loop-i.invariant.3 fair).1 (c.all_declared-declared.ensures fair) c.contains.ensures c.if-contains.true
 
 pub returns-else-contains : goal.returns-else-contains
 returns-else-contains c =
     let ps = parts_of c.args.tokens.now c.args.uses.now in
     let end = ended ps c.loop-i.i-iterator c.next.new.self c.loop-i.invariant.2 c.in-None.ensures.steps in
     let e : length ps ≡ c.min.result = parts_length c.args.tokens.now c.args.uses.now ∙ sym c.min.ensures in
-    λ fair. subst (First (Misnamed ps)) e (body_0_missing ps (enumerate_count c.loop-i.i-iterator) c.all-declared-declared.result c.contains.result end (c.loop-i.invariant.3 fair).1 (c.all-declared-declared.ensures fair) c.contains.ensures c.if-contains.false)
+    λ fair. subst (First (Misnamed ps)) e (body_0_missing ps (enumerate_count c.loop-i.i-iterator) c.all_declared-declared.result c.contains.result end (c.loop-i.invariant.3 fair).1 (c.all_declared-declared.ensures fair) c.contains.ensures c.if-contains.false)

@@ -16,10 +16,10 @@ here c = turn (parts_of c.args.tokens.now c.args.uses.now) c.loop-i.i-iterator c
 pub loop-i-preserved : goal.loop-i-preserved
 loop-i-preserved c =
     let w = here (goal.at.loop-i-preserved c).In-Some in
-    (search rules, search rules, w.ahead, part_passed w Unranged c.loop-i.invariant.3 (λ q. q (c.is-ranged.ensures.0 c.if-not-is-ranged.false)))
+    (search rules, search rules, w.ahead, part_passed w Unranged c.loop-i.invariant.3 (λ q. q (c.is_ranged.ensures.0 c.if-not-is_ranged.false)))
 
-pub returns-then-not-is-ranged : goal.returns-then-not-is-ranged
-returns-then-not-is-ranged c = let w = here (goal.at.returns-then-not-is-ranged c).In-Some in part_first w Unranged c.loop-i.invariant.3 (λ q. both_ways c.is-ranged.result c.if-not-is-ranged.true (c.is-ranged.ensures.1 q))
+pub returns-then-not-is_ranged : goal.returns-then-not-is_ranged
+returns-then-not-is_ranged c = let w = here (goal.at.returns-then-not-is_ranged c).In-Some in part_first w Unranged c.loop-i.invariant.3 (λ q. both_ways c.is_ranged.result c.if-not-is_ranged.true (c.is_ranged.ensures.1 q))
 
 pub returns : goal.returns
 returns c =
