@@ -1,5 +1,5 @@
 -- A walk over the tokens and their uses: the part of each turn, and what is still to come.
-use Rattle.std.proofs.Common.{◌≡◌, ℕ, ◌+◌, ◌<◌, ◌≤◌, min, List, [], ◌∷◌, length, drop, Some, None, Option, sym, refl, ap, ◌∙◌, subst, ap₂, arith, length-drop, Bor, MatchOption}
+use Rattle.std.proofs.Common.{◌≡◌, ℕ, ◌+◌, ◌<◌, ◌≤◌, min, List, [], ◌∷◌, length, drop, Some, None, Option, sym, refl, ap, ◌∙◌, subst, ap₂, arith, length-drop, Bor, inl, inr}
 use Rattle.std.specs.declared.iter.Enumerate.{Enumerate}
 use Rattle.std.specs.declared.iter.Zip.{Zip}
 use Rattle.std.specs.declared.slice.Iter.{Iter}
@@ -61,14 +61,14 @@ came ps n s token purpose t a w =
       rest = sym (ap (drop 1) e) ∙ drop-drop 1 n ps;
     }
 
-none_left : (o : Option (Bor Token)) (a c : Iter Token) (b d : Iter Use) → iter_steps a o c → MatchOption o (d ≡ b) (λ _. iter_steps b None d) → parts_of (iter_rest a) (iter_rest b) ≡ []
-none_left None a c b d h k = ap (λ ts. parts_of ts (iter_rest b)) (nil_from_length (iter_rest a) h.0) ∙ with_none (iter_rest b)
-none_left (Some x) a c b d h k = ap (parts_of (iter_rest a)) (nil_from_length (iter_rest b) k.0)
+none_left : (s t : Parallel) → both s None t → parts_of (iter_rest (zip_first s)) (iter_rest (zip_second s)) ≡ []
+none_left s t (inl (u, w)) = ap (λ ts. parts_of ts (iter_rest (zip_second s))) (nil_from_length (iter_rest (zip_first s)) w.0) ∙ with_none (iter_rest (zip_second s))
+none_left s t (inr (u, w)) = ap (parts_of (iter_rest (zip_first s))) (nil_from_length (iter_rest (zip_second s)) w.0)
 
 -- where nothing came, there are no more parts
 pub none_came : (ps : List Part) (n : ℕ) (s t : Parallel) → Rest ps n s → both s None t → length ps ≤ n
 none_came ps n s t a w =
-    let e : [] ≡ drop n ps = sym (none_left w.0 (zip_first s) (zip_first t) (zip_second s) (zip_second t) w.1 w.2) ∙ a in
+    let e : [] ≡ drop n ps = sym (none_left s t w) ∙ a in
     omega (arith, length-drop n ps, ap length e)
 
 -- The same with a count.
