@@ -6,3 +6,4 @@ pub mod Holding
 pub mod Valued
 pub mod Once
 pub mod Building
+pub mod Pairing

@@ -341,7 +341,7 @@ mod lines {
             ),
             Ok(25)
         );
-        assert_eq!(rt; &page[0..25], b"0,0,end,4294967295,,,,,\r\n");
+        assert_eq!(rt; &page[0..25], b"0,0,end,4294967295,,,,,\r\n".as_slice());
         assert_eq!(rt; read(&page[0..25]), Err(17));
     }
 }

@@ -1,9 +1,9 @@
 use Rattle.std.proofs.Common.{◌≡◌, List, ◌++◌, map}
 use Rattle.std.specs.List.{AllByRecursion as All}
-use Rattle.std.proofs.lemmas.Map.Pairs.{pairs-rest}
 use Rattle.rows.specs.Tables.{table}
 use Rattle.rows.proofs.Building.{SoFar}
+use Rattle.rows.proofs.Pairing.{pairs_rest}
 use Rattle.rows.proofs.row.Rows.build.Given as goal
 
 abbrev pub invariant-loop-token : goal.invariant-loop-token
-invariant-loop-token g l = SoFar g.M.Literal.literal l.tokens l.uses (pairs-rest l.token-iterator) (table l.rows)
+invariant-loop-token g l = SoFar g.M.Literal.literal l.tokens l.uses (pairs_rest l.token-iterator) (table l.rows)

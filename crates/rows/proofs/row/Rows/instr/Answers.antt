@@ -5,6 +5,6 @@ use Rattle.rows.proofs.row.Rows.instr.Goals as goal
 
 pub returns : goal.returns
 returns g c =
-    c.unwrap-or.ensures ∙ ap (λ o. unwrap_or o End) c.copied.ensures
+    c.unwrap_or.ensures ∙ ap (λ o. unwrap_or o End) c.copied.ensures
     ∙ item_or c.deref.result.now c.args.i c.get.result End c.get.ensures.lookup
     ∙ ap (λ xs. get_or xs c.args.i End) c.deref.ensures.value

@@ -4,6 +4,6 @@ use Rattle.rows.proofs.row.Rows.port.Goals as goal
 
 pub returns : goal.returns
 returns g c =
-    c.unwrap-or.ensures ∙ ap (λ o. unwrap_or o None) c.copied.ensures
+    c.unwrap_or.ensures ∙ ap (λ o. unwrap_or o None) c.copied.ensures
     ∙ item_or c.args.self.now.ports c.from.result c.get.result None c.get.ensures.lookup
     ∙ ap (λ i. get_or c.args.self.now.ports i None) c.from.ensures
