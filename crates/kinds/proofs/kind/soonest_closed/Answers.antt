@@ -3,7 +3,7 @@ use Rattle.std.proofs.lemmas.List.{at_drop_all}
 use Rattle.rules.specs.Able.{soonest_closed}
 use Rattle.kinds.proofs.Loops.{or_sooner, or_sooner_none, soonest_closed_more, soonest_closed_same}
 use Rattle.kinds.proofs.kind.soonest_closed.Goals as goal
-use Rattle.kinds.proofs.kind.soonest_closed.Goals.{in-Closed, in-default}
+use Rattle.kinds.proofs.kind.soonest_closed.Goals.{in-Closed, in_default}
 
 pub loop-o-init : goal.loop-o-init
 loop-o-init g c = ap (soonest_closed g.K.Kind.rules (g.K.Kind.meaning c.args.kind.now)) c.waiting-o-items.ensures
@@ -14,8 +14,8 @@ loop-o-preserved g c =
     let μ = g.K.Kind.meaning c.args.kind.now in
     let os = c.waiting-o-items.result.now in
     elim c.match-poll.branch [
-      | in-Closed w ↦ soonest_closed_more K μ os c.loop-o.o-index _ c.loop-o-test.true c.loop-o.soonest c.match-poll.soonest w.sooner-of-soonest.result w.soonest-is w.sooner-of-soonest.ensures w.in-Closed.ensures ∙ c.loop-o.invariant
-      | in-default w ↦ soonest_closed_same K μ os c.loop-o.o-index _ c.loop-o-test.true c.loop-o.soonest c.match-poll.soonest c.poll.result w.soonest-is c.poll.ensures w.in-default.not-Closed ∙ c.loop-o.invariant
+      | in-Closed w ↦ soonest_closed_more K μ os c.loop-o.o-index _ c.loop-o-test.true c.loop-o.soonest c.match-poll.soonest w.sooner_of-soonest.result w.soonest-is w.sooner_of-soonest.ensures w.in-Closed.ensures ∙ c.loop-o.invariant
+      | in_default w ↦ soonest_closed_same K μ os c.loop-o.o-index _ c.loop-o-test.true c.loop-o.soonest c.match-poll.soonest c.poll.result w.soonest-is c.poll.ensures w.in_default.not-Closed ∙ c.loop-o.invariant
     ]
 
 pub returns : goal.returns

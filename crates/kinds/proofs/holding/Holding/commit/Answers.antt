@@ -3,8 +3,8 @@ use Rattle.kinds.specs.Held.{committed_unless, give_room, take_some, give_commit
 use Rattle.kinds.proofs.holding.Holding.commit.Goals as goal
 use Rattle.kinds.proofs.holding.Holding.commit.Goals.{then-not-keeps, else-not-keeps}
 
-pub returns-in-default : goal.returns-in-default
-returns-in-default g c = committed_unless _ c.args.o _ _ _ (λ e. c.in-default.not-Alone (c.poll.ensures c.args.keeps ∙ e))
+pub returns-in_default : goal.returns-in_default
+returns-in_default g c = committed_unless _ c.args.o _ _ _ (λ e. c.in_default.not-Alone (c.poll.ensures c.args.keeps ∙ e))
 
 pub invariant-of-self : goal.invariant-of-self
 invariant-of-self g c =
@@ -12,8 +12,8 @@ invariant-of-self g c =
     let lt = give_room s c.args.o c.args.room c.args.keeps (c.in-Alone.ensures c.args.keeps) c.in-Give.is in
     (λ p. ((s.rings p).0, counts_set s.counts c.args.o.port _ p (omega arith) (omega arith) (s.rings p).1), tt)
 
-pub overflow-sub-self : goal.overflow-sub-self
-overflow-sub-self g c = take_some c.args.self.now c.args.o c.args.room c.args.keeps (c.in-Alone.ensures c.args.keeps) c.in-Take.is
+pub overflow_sub-self : goal.overflow_sub-self
+overflow_sub-self g c = take_some c.args.self.now c.args.o c.args.room c.args.keeps (c.in-Alone.ensures c.args.keeps) c.in-Take.is
 
 pub returns-in-Give : goal.returns-in-Give
 returns-in-Give g c =

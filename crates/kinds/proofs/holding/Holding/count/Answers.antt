@@ -4,5 +4,5 @@ use Rattle.kinds.proofs.holding.Holding.count.Goals as goal
 
 pub returns : goal.returns
 returns c =
-    c.unwrap-or.ensures ∙ ap (λ o. unwrap_or o 0) c.copied.ensures
+    c.unwrap_or.ensures ∙ ap (λ o. unwrap_or o 0) c.copied.ensures
     ∙ item_or c.args.self.now.counts c.args.port c.get.result 0 c.get.ensures.lookup
