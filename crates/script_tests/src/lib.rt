@@ -178,11 +178,11 @@ mod check_tests {
     fn tables(rt: HostRuntime) {
         let heap = rt.alloc();
         let mut table: Checked<Weight> = Checked::new(heap);
-        assert!(rt; table.text() == b"(task 0)");
+        assert!(rt; table.text() == b"(task 0)".as_slice());
         let script: &[u8] = b"(mailbox 3)(task 0(emit))";
         assert!(rt; is_accepted(heap, script, &mut table));
         assert!(rt; table.text() == script);
         assert!(rt; !is_accepted(heap, b"(task 7)", &mut table));
-        assert!(rt; table.text() == b"(task 0)");
+        assert!(rt; table.text() == b"(task 0)".as_slice());
     }
 }

@@ -6,11 +6,11 @@ use Rattle.kinds.proofs.holding.Holding.commit.Goals.{then-not-keeps, else-not-k
 pub returns-in_default : goal.returns-in_default
 returns-in_default g c = committed_unless _ c.args.o _ _ _ (λ e. c.in_default.not-Alone (c.poll.ensures c.args.keeps ∙ e))
 
-pub invariant-of-self : goal.invariant-of-self
-invariant-of-self g c =
+pub invariant_of-self : goal.invariant_of-self
+invariant_of-self g c =
     let s = c.args.self.now in
     let lt = give_room s c.args.o c.args.room c.args.keeps (c.in-Alone.ensures c.args.keeps) c.in-Give.is in
-    (λ p. ((s.rings p).0, counts_set s.counts c.args.o.port _ p (omega arith) (omega arith) (s.rings p).1), tt)
+    record { rings = λ p. ((s.rings p).0, counts_set s.counts c.args.o.port _ p (omega arith) (omega arith) (s.rings p).1) }
 
 pub overflow_sub-self : goal.overflow_sub-self
 overflow_sub-self g c = take_some c.args.self.now c.args.o c.args.room c.args.keeps (c.in-Alone.ensures c.args.keeps) c.in-Take.is
