@@ -1,5 +1,6 @@
 //! A place of a text, shown with its line and a caret.
 #![tactic(auto)]
+
 ghost use Rattle.std.specs.Prelude.{◌≡◌, ◌≤◌, min, length};
 ghost use Rattle.excerpt.specs.Lines.{line_feeds, LineAt};
 ghost use Rattle.excerpt.specs.Windows.{Window, ExcerptOf, shown_byte};

@@ -1,5 +1,6 @@
 //! The grammar of scripts.
 #![tactic(auto)]
+
 pub mod form;
 mod items;
 pub mod laws;

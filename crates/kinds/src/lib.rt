@@ -1,5 +1,6 @@
 //! Base event kinds: what every kind shows, and the five delivered ones.
 #![tactic(auto)]
+
 pub mod buffer;
 pub mod channel;
 mod holder;

@@ -1,5 +1,6 @@
 //! Example offers, times and messages: what the kinds reply, and what a commit leaves in the cells.
 #![tactic(auto)]
+
 #[cfg(test)]
 mod examples {
     use kinds::kind::Kind;

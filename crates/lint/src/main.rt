@@ -1,4 +1,5 @@
 #![tactic(auto)]
+
 mod input;
 mod show;
 mod verdict;

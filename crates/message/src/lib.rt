@@ -1,5 +1,6 @@
 //! Messages: what tasks send, receive and hold, and the literals in which they are written.
 #![tactic(auto)]
+
 pub mod decimal;
 mod joined;
 pub mod kind;

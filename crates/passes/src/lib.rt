@@ -2,6 +2,7 @@
 //!
 //! Each pass goes over the tokens and their uses in order, and finds the first token that breaks its rule.
 #![tactic(auto)]
+
 pub mod limits;
 pub mod literals;
 pub mod names;

@@ -2,6 +2,7 @@
 //!
 //! The replay itself is in specs/; the types here are what it shares with the code above.
 #![tactic(auto)]
+
 pub mod candidate;
 pub mod fault;
 pub mod laws;

@@ -19,6 +19,6 @@ zip_none (x ∷ xs) = refl
 
 pub pairs_rest_all : {A B : Type 0} (s t : Zip (Iter A) (Iter B)) → zip_steps iter_steps iter_steps s None t → pairs_rest s ≡ []
 pairs_rest_all s t w = elim (either_empty_from_Zip s t None refl w) [
-    | inl e ↦ ap (λ xs. zip xs (iter_rest (zip_second s))) e
-    | inr e ↦ ap (zip (iter_rest (zip_first s))) e ∙ zip_none (iter_rest (zip_first s))
-  ]
+  | inl e ↦ ap (λ xs. zip xs (iter_rest (zip_second s))) e
+  | inr e ↦ ap (zip (iter_rest (zip_first s))) e ∙ zip_none (iter_rest (zip_first s))
+]

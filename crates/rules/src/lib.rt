@@ -2,6 +2,7 @@
 //!
 //! The rules themselves are in specs/; the enums here are what they share with the code above.
 #![tactic(auto)]
+
 pub mod kind;
 pub mod laws;
 pub mod nack;

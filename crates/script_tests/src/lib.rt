@@ -1,5 +1,6 @@
 //! Example scripts, and what check says of each.
 #![tactic(auto)]
+
 #[cfg(test)]
 mod check_tests {
     use message::kind::Message;

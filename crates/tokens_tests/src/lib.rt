@@ -1,5 +1,6 @@
 //! Example texts, what is said of each, and its tokens.
 #![tactic(auto)]
+
 #[cfg(test)]
 mod text_tests {
     use tokens::text::check_text;
