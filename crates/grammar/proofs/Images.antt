@@ -1,6 +1,6 @@
 -- A script of values as it is written: each number and literal is replaced by its bytes.
 use Rattle.std.proofs.Common.{◌≡◌, ℕ, List, [], ◌∷◌, ◌++◌, map, sym, refl, ap, ◌∙◌, subst, ap₂}
-use Rattle.std.specs.List.{AllByRecursion as All}
+use Rattle.std.specs.List.{AllByRecursion}
 use Rattle.std.proofs.ByRecursion.{All-append}
 use Rattle.std.proofs.lemmas.List.{length-map}
 use Rattle.grammar.specs.declared.words.Keyword.{Keyword}
@@ -98,21 +98,21 @@ module _ {N K L : Type 0} (s : Spelling N K L) where
       ap₂ ◌++◌ (each_image (raw_port s) (port s) (port as_written) (λ p. refl) x.ports)
       (ap₂ ◌++◌ (body_image x.first) (each_image (raw_body s) (body s) (body as_written) body_image x.others))
 
-form_fit : (o : BracketUse) (k : Keyword) (is : List Part) (c : BracketUse) → All Fit is → All Fit (form o k is c)
+form_fit : (o : BracketUse) (k : Keyword) (is : List Part) (c : BracketUse) → AllByRecursion Fit is → AllByRecursion Fit (form o k is c)
 form_fit o k is c h = (tt, (tt, All-append Fit is _ h (tt, tt)))
 
-each_fit : {A : Type 0} (f : A → List Part) → ((x : A) → All Fit (f x)) → (xs : List A) → All Fit (each f xs)
+each_fit : {A : Type 0} (f : A → List Part) → ((x : A) → AllByRecursion Fit (f x)) → (xs : List A) → AllByRecursion Fit (each f xs)
 each_fit f h [] = tt
 each_fit f h (x ∷ xs) = All-append Fit (f x) (each f xs) (h x) (each_fit f h xs)
 
 -- and is spelled well
 module _ {N K L : Type 0} (s : Spelling N K L) (h : Proper s) where
-  action_fit : (a : Action K L) → All Fit (action s a)
+  action_fit : (a : Action K L) → AllByRecursion Fit (action s a)
   action_fit (set l) = (tt, (tt, (h.literal l, (tt, tt))))
   action_fit (add k) = (tt, (tt, (h.addend k, (tt, tt))))
 
   mutual
-    event_fit : (e : Event N K L) (o : BracketUse) → All Fit (event s o e)
+    event_fit : (e : Event N K L) (o : BracketUse) → AllByRecursion Fit (event s o e)
     event_fit never o = (tt, (tt, (tt, tt)))
     event_fit nack o = (tt, (tt, (tt, tt)))
     event_fit (always l) o = (tt, (tt, (h.literal l, (tt, tt))))
@@ -124,27 +124,27 @@ module _ {N K L : Type 0} (s : Spelling N K L) (h : Proper s) where
     event_fit (guard t e f) o = form_fit o Guard (part (Test t) (atom (test_word t)) ∷ (event s Open e ++ event s OpenSecond f)) CloseGuard (tt, All-append Fit (event s Open e) _ (event_fit e Open) (event_fit f OpenSecond))
     event_fit (with_nack b e) o = form_fit o WithNack (number NackBody (s.number b) ∷ event s Open e) CloseNack (h.number b, event_fit e Open)
 
-    events_fit : (es : Events N K L) → All Fit (events s es)
+    events_fit : (es : Events N K L) → AllByRecursion Fit (events s es)
     events_fit none = tt
     events_fit (more e es) = All-append Fit (event s Open e) _ (event_fit e Open) (events_fit es)
 
-  instr_fit : (x : Instr N K L) → All Fit (instr s x)
+  instr_fit : (x : Instr N K L) → AllByRecursion Fit (instr s x)
   instr_fit (sync e) = form_fit Open Sync (event s Open e) CloseSync (event_fit e Open)
   instr_fit (spawn b) = (tt, (tt, (h.number b, (tt, tt))))
   instr_fit emit = (tt, (tt, (tt, tt)))
   instr_fit again = (tt, (tt, (tt, tt)))
 
-  port_fit : (p : Port N) → All Fit (port s p)
+  port_fit : (p : Port N) → AllByRecursion Fit (port s p)
   port_fit p = (tt, (tt, (h.number p.number, (tt, tt))))
 
-  body_fit : (b : Body N K L) → All Fit (body s b)
+  body_fit : (b : Body N K L) → AllByRecursion Fit (body s b)
   body_fit b = form_fit Open Task (number NewBody (s.number b.number) ∷ each (instr s) b.instrs) CloseTask (h.number b.number, each_fit (instr s) instr_fit b.instrs)
 
-  pub script_fit : (x : Script N K L) → All Fit (script s x)
+  pub script_fit : (x : Script N K L) → AllByRecursion Fit (script s x)
   script_fit x = All-append Fit (each (port s) x.ports) _ (each_fit (port s) port_fit x.ports) (All-append Fit (body s x.first) _ (body_fit x.first) (each_fit (body s) body_fit x.others))
 
   pub image_spelled_well : (x : Script N K L) → WellSpelled (raw_script s x)
-  image_spelled_well x = record { parts = subst (All Fit) (sym (script_image s x)) (script_fit x) }
+  image_spelled_well x = record { parts = subst (AllByRecursion Fit) (sym (script_image s x)) (script_fit x) }
 
   -- so that its tokens are a script
   pub image_is_script : (x : Script N K L) → IsScript (part_lexemes (script s x))

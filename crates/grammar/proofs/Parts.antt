@@ -1,6 +1,6 @@
 -- Tokens and their uses, put together and taken apart.
 use Rattle.std.proofs.Common.{◌≡◌, ℕ, true, List, [], ◌∷◌, ◌++◌, map, length, refl, ap, arith}
-use Rattle.std.specs.List.{AllByRecursion as All}
+use Rattle.std.specs.List.{AllByRecursion}
 use Rattle.grammar.specs.declared.words.Use.{Use}
 use Rattle.grammar.specs.declared.words.Use.TheVariants.{Bracket, Head, Test, Number, Literal}
 use Rattle.tokens.specs.declared.token.Token.{Token}
@@ -32,7 +32,7 @@ purposes_of (u ∷ us) (l ∷ ls) e = ap (λ x. u ∷ x) (purposes_of us ls (ome
 abbrev pub Fit : Part → Type 0
 Fit p = Spelled p.purpose p.lexeme
 
-pub all_last : {A : Type 0} (P : A → Type 0) (xs ys : List A) → All P (xs ++ ys) → All P ys
+pub all_last : {A : Type 0} (P : A → Type 0) (xs ys : List A) → AllByRecursion P (xs ++ ys) → AllByRecursion P ys
 all_last P [] ys h = h
 all_last P (x ∷ xs) ys h = all_last P xs ys h.1
 

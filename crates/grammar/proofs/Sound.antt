@@ -2,7 +2,7 @@
 use Rattle.std.proofs.Common.{◌≡◌, ℕ, Bool, true, false, cond, List, [], ◌∷◌, ◌++◌, Some, None, Option, sym, refl, ap, ◌∙◌, subst, append_assoc, append-nil}
 use mathlib.Core.List.{tail}
 use Rattle.std.specs.Str.{bytes_eq}
-use Rattle.std.specs.List.{AllByRecursion as All}
+use Rattle.std.specs.List.{AllByRecursion}
 use Rattle.std.proofs.lemmas.Slice.Eq.{bytes_eq-Decides}
 use Rattle.message.specs.declared.kind.Sign.{Sign}
 use Rattle.grammar.specs.declared.words.PortKind.{PortKind}
@@ -30,7 +30,7 @@ found_by : {A : Type 0} (f : A → List ℕ) (P : A → Type 0) (w : List ℕ) (
 found_by f P w x o p h true e = (e refl, p)
 found_by f P w x o p h false e = h
 
-found : {A : Type 0} (f : A → List ℕ) (P : A → Type 0) (xs : List A) (w : List ℕ) → All P xs → Found f P w (find f xs w)
+found : {A : Type 0} (f : A → List ℕ) (P : A → Type 0) (xs : List A) (w : List ℕ) → AllByRecursion P xs → Found f P w (find f xs w)
 unfolding find
 found f P [] w ps = tt
 found f P (x ∷ xs) w ps = found_by f P w x (find f xs w) ps.0 (found f P xs w ps.1) (bytes_eq w (f x)) (bytes_eq-Decides w (f x)).0
@@ -42,7 +42,7 @@ Built r k = (vs : Values (after k)) → (x : Tree r) × (tail (text r x) ≡ par
 with_port : (k : PortKind) (bs : List ℕ) (x : Raw) → Raw
 with_port k bs x = record { ports = record { kind = k; number = bs } ∷ x.ports; first = x.first; others = x.others }
 
-builds : (r : Role) → All (Built r) (begins r)
+builds : (r : Role) → AllByRecursion (Built r) (begins r)
 unfolding with_port
 builds role.Top = (
   (λ v. (with_port kind.Channel v.0 v.1.1.0, rw append-nil)),

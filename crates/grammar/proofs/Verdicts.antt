@@ -1,6 +1,6 @@
 -- What the machine's stack says of the tokens read so far.
 use Rattle.std.proofs.Common.{◌≡◌, ℕ, ◌+◌, ◌<◌, ◌≤◌, Bool, true, false, List, [], ◌∷◌, ◌++◌, map, reverse, length, get_or, take, Some, None, Option, sym, refl, ap, ◌∙◌, subst, subst₂, append_assoc, append-nil, arith}
-use Rattle.std.specs.List.{AllByRecursion as All}
+use Rattle.std.specs.List.{AllByRecursion}
 use Rattle.std.proofs.ByRecursion.{All-append, All-get_or, All-push}
 use Rattle.std.proofs.lemmas.List.{take-map, map_more, map-append, take_all, length-map, length_push, length-take-le, reverse-reverse}
 use Rattle.grammar.specs.declared.words.Use.{Use}
@@ -24,13 +24,13 @@ use Rattle.grammar.proofs.Parts.{Fit, all_last, with_uses_push, lexemes_of, spel
 pub record SoFar (ts : List Token) (k : ℕ) (us : List Use) (s : List Item) : Type 0 where
   pub count : length us ≡ k
   pub ran : Run (Top ∷ []) (with_uses us (take k (map lexeme ts))) (reverse s)
-  pub fit : All Classified ts → All Fit (with_uses us (take k (map lexeme ts)))
+  pub fit : AllByRecursion Classified ts → AllByRecursion Fit (with_uses us (take k (map lexeme ts)))
 
 pub at_start : (ts : List Token) (us : List Use) (s₀ s : List Item) → us ≡ [] → s₀ ≡ [] → s ≡ s₀ ++ (Top ∷ []) → SoFar ts 0 us s
 at_start ts us s₀ s e f g = subst₂ (SoFar ts 0) (sym e) (sym (g ∙ ap (λ x. x ++ (Top ∷ [])) f)) (record { count = refl; ran = stop; fit = λ _. tt })
 
 -- the first of the parts, as the machine reads it
-next_part : {s s₁ : List Item} {ps : List Part} → Run s ps s₁ → (l : Lexeme) (rest : List Lexeme) → part_lexemes ps ≡ l ∷ rest → All Fit ps → (u : Use) × (s₂ : List Item) × (step s l ≡ Some (u, s₂)) × Spelled u l
+next_part : {s s₁ : List Item} {ps : List Part} → Run s ps s₁ → (l : Lexeme) (rest : List Lexeme) → part_lexemes ps ≡ l ∷ rest → AllByRecursion Fit ps → (u : Use) × (s₂ : List Item) × (step s l ≡ Some (u, s₂)) × Spelled u l
 next_part stop l rest e fits = let z : ◌≡◌ {A = ℕ} 0 1 = cc in absurd (omega arith)
 next_part (read {s = s} {s₁ = s₂} {p = p} f run) l rest e fits =
     let same : p.lexeme ≡ l = cc in
@@ -75,14 +75,14 @@ module _ (ts : List Token) (k : ℕ) (us : List Use) (s : List Item) (h : SoFar 
       record {
         count = length_push us u ∙ ap (λ n. n + 1) h.count;
         ran = regroup parts (read_on (part u l) (reverse s₁) h.ran w.0);
-        fit = λ c. subst (All Fit) (sym parts) (All-push Fit _ (part u l) (h.fit c) (suits_spelled u (get_or ts k d) (All-get_or Classified ts k d lt c) w.1));
+        fit = λ c. subst (AllByRecursion Fit) (sym parts) (All-push Fit _ (part u l) (h.fit c) (suits_spelled u (get_or ts k d) (All-get_or Classified ts k d lt c) w.1));
       }
 
   pub goes_on : (d : Token) (o : Option Use) (u : Use) (us₁ : List Use) (s₁ : List Item) → k < length ts → Stepped s (get_or ts k d) o s₁ → o ≡ Some u → us₁ ≡ us ++ (u ∷ []) → SoFar ts (k + 1) us₁ s₁
   goes_on d o u us₁ s₁ lt w e f = subst (λ x. SoFar ts (k + 1) x s₁) (sym f) (one_on d u s₁ lt (subst (λ x. Stepped s (get_or ts k d) x s₁) e w))
 
   -- what a script has read, the machine has
-  begun : All Classified ts → k ≤ length ts → Viable (take k (map lexeme ts))
+  begun : AllByRecursion Classified ts → k ≤ length ts → Viable (take k (map lexeme ts))
   begun c le =
       let rest = prints (reverse s) (some_values (reverse s)) in
       let u = run_sound h.ran (some_values (reverse s)) in
@@ -91,7 +91,7 @@ module _ (ts : List Token) (k : ℕ) (us : List Use) (s : List Item) (h : SoFar 
         rest = part_lexemes rest;
         whole = record {
           raw = u.0.0;
-          spelled_well = record { parts = subst (All Fit) (sym e) (All-append Fit _ rest (h.fit c) (fit_values (reverse s))) };
+          spelled_well = record { parts = subst (AllByRecursion Fit) (sym e) (All-append Fit _ rest (h.fit c) (fit_values (reverse s))) };
           written = ap part_lexemes e ∙ map-append (λ p. p.lexeme) _ rest ∙ ap (λ x. x ++ part_lexemes rest) (lexemes_of us (take k (map lexeme ts)) (long le));
         };
       }
@@ -104,9 +104,9 @@ module _ (ts : List Token) (k : ℕ) (us : List Use) (s : List Item) (h : SoFar 
       let x = v.whole.raw in
       let e : part_lexemes (raw_parts x) ≡ part_lexemes (with_uses us read-so-far) ++ (l ∷ v.rest) = v.whole.written ∙ ap (λ y. y ++ v.rest) (next_lexeme d lt) ∙ append_assoc read-so-far (l ∷ []) v.rest ∙ ap (λ y. y ++ (l ∷ v.rest)) (sym (lexemes_of us read-so-far (long (omega arith)))) in
       let left = follow h.ran (script_taken x) (l ∷ v.rest) e in
-      next_part left.ran l v.rest left.lexemes (all_last Fit (with_uses us read-so-far) left.parts (subst (All Fit) left.joined v.whole.spelled_well.parts))
+      next_part left.ran l v.rest left.lexemes (all_last Fit (with_uses us read-so-far) left.parts (subst (AllByRecursion Fit) left.joined v.whole.spelled_well.parts))
 
-  pub stops : (d : Token) (o : Option Use) (s₁ : List Item) → k < length ts → Stepped s (get_or ts k d) o s₁ → o ≡ None → All Classified ts → MisfitAt (map lexeme ts) k
+  pub stops : (d : Token) (o : Option Use) (s₁ : List Item) → k < length ts → Stepped s (get_or ts k d) o s₁ → o ≡ None → AllByRecursion Classified ts → MisfitAt (map lexeme ts) k
   stops d o s₁ lt w e c =
       let no_step : Refused s (get_or ts k d) = subst (λ x. Stepped s (get_or ts k d) x s₁) e w in
       record {
@@ -121,14 +121,14 @@ module _ (ts : List Token) (k : ℕ) (us : List Use) (s : List Item) (h : SoFar 
   all_read : length ts ≤ k → take k (map lexeme ts) ≡ map lexeme ts
   all_read le = take_all k (map lexeme ts) (omega (arith, length-map ts lexeme))
 
-  pub accepted : (b : Bool) (s₁ : List Item) → length ts ≤ k → k ≤ length ts → b ≡ ended s₁ → s₁ ≡ s → b ≡ true → All Classified ts → Uses (map lexeme ts) us
+  pub accepted : (b : Bool) (s₁ : List Item) → length ts ≤ k → k ≤ length ts → b ≡ ended s₁ → s₁ ≡ s → b ≡ true → AllByRecursion Classified ts → Uses (map lexeme ts) us
   accepted b s₁ le ge e f g c =
       let at_end : reverse s ≡ Bodies ∷ [] = ap reverse (end_is s (sym (e ∙ ap ended f) ∙ g)) in
       let u = run_sound (subst (Run (Top ∷ []) (with_uses us (take k (map lexeme ts)))) at_end h.ran) ([], tt) in
       let written : raw_parts u.0.0 ≡ with_uses us (map lexeme ts) = sym (append-nil (raw_parts u.0.0)) ∙ u.1 ∙ append-nil (with_uses us (take k (map lexeme ts))) ∙ ap (with_uses us) (all_read le) in
       record {
         raw = u.0.0;
-        spelled_well = record { parts = subst (All Fit) (ap (with_uses us) (all_read le) ∙ sym written) (h.fit c) };
+        spelled_well = record { parts = subst (AllByRecursion Fit) (ap (with_uses us) (all_read le) ∙ sym written) (h.fit c) };
         long = omega (arith, h.count, length-map ts lexeme);
         written = written;
       }
@@ -136,7 +136,7 @@ module _ (ts : List Token) (k : ℕ) (us : List Use) (s : List Item) (h : SoFar 
   stack_is : length ts ≤ k → k ≤ length ts → IsScript (map lexeme ts) → reverse s ≡ Bodies ∷ []
   stack_is le ge x = (same_end h.ran (script_taken x.raw) (x.written ∙ sym (all_read le) ∙ sym (lexemes_of us (take k (map lexeme ts)) (long ge)))).1
 
-  pub unfinished : (b : Bool) (s₁ : List Item) → length ts ≤ k → k ≤ length ts → b ≡ ended s₁ → s₁ ≡ s → b ≡ false → All Classified ts → MisfitAt (map lexeme ts) (length ts)
+  pub unfinished : (b : Bool) (s₁ : List Item) → length ts ≤ k → k ≤ length ts → b ≡ ended s₁ → s₁ ≡ s → b ≡ false → AllByRecursion Classified ts → MisfitAt (map lexeme ts) (length ts)
   unfinished b s₁ le ge e f g c =
       let same : k ≡ length ts = omega arith in
       record {

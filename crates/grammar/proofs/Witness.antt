@@ -1,6 +1,6 @@
 -- Every stack stands for something that is spelled well, so that what it leads on from begins a script.
 use Rattle.std.proofs.Common.{ℕ, List, [], ◌∷◌, refl, inl, arith}
-use Rattle.std.specs.List.{AllByRecursion as All}
+use Rattle.std.specs.List.{AllByRecursion}
 use Rattle.std.proofs.ByRecursion.{All-append}
 use Rattle.message.specs.declared.kind.Sign.TheVariants.{Zero}
 use Rattle.grammar.specs.declared.items.Role.{Role}
@@ -48,14 +48,14 @@ some_value (Literal u) = nought
 some_value Test = Zero
 some_value (Shut u) = tt
 
-fit_tree : (r : Role) → All Fit (print (Head r) (some_tree r))
+fit_tree : (r : Role) → AllByRecursion Fit (print (Head r) (some_tree r))
 fit_tree role.Top = (tt, (nought_integer, (tt, tt)))
 fit_tree role.Body = (tt, (nought_integer, (tt, tt)))
 fit_tree role.Instr = (tt, (tt, tt))
 fit_tree role.Event = (tt, (tt, tt))
 fit_tree role.Action = (tt, (nought_integer, (tt, tt)))
 
-fit_value : (i : Item) → All Fit (print i (some_value i))
+fit_value : (i : Item) → AllByRecursion Fit (print i (some_value i))
 fit_value Top = (tt, (tt, (nought_integer, (tt, tt))))
 fit_value Bodies = tt
 fit_value Instrs = (tt, tt)
@@ -72,7 +72,7 @@ pub some_values : (s : List Item) → Values s
 some_values [] = tt
 some_values (i ∷ s) = (some_value i, some_values s)
 
-pub fit_values : (s : List Item) → All Fit (prints s (some_values s))
+pub fit_values : (s : List Item) → AllByRecursion Fit (prints s (some_values s))
 unfolding some_values
 fit_values [] = tt
 fit_values (i ∷ s) = All-append Fit (print i (some_value i)) _ (fit_value i) (fit_values s)

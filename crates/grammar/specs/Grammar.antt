@@ -1,6 +1,6 @@
 -- The grammar: what a script is, and the tokens in which each part is written, each with its use.
 use Rattle.std.specs.Prelude.{◌≡◌, ℕ, List, [], ◌∷◌, ◌++◌, map, codes}
-use Rattle.std.specs.List.{AllByRecursion as All}
+use Rattle.std.specs.List.{AllByRecursion}
 use Rattle.message.specs.declared.kind.Sign.{Sign}
 use Rattle.message.specs.declared.kind.Sign.TheVariants.{Neg, Zero, Pos}
 use Rattle.grammar.specs.declared.words.PortKind.{PortKind}
@@ -180,7 +180,7 @@ Spelled u closing = Unit {0}
 Spelled u (atom bs) = SpelledAs u bs
 
 pub record WellSpelled (x : Raw) : Type 0 where
-  pub parts : All (λ p. Spelled p.purpose p.lexeme) (raw_parts x)
+  pub parts : AllByRecursion (λ p. Spelled p.purpose p.lexeme) (raw_parts x)
 
 abbrev pub part_lexemes : List Part → List Lexeme
 part_lexemes ps = map (λ p. p.lexeme) ps

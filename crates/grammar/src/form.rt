@@ -1,5 +1,5 @@
 ghost use Rattle.std.specs.Prelude.{◌≡◌, map, IfOk};
-ghost use Rattle.std.specs.List.{AllByRecursion as All};
+ghost use Rattle.std.specs.List.{AllByRecursion};
 ghost use Rattle.grammar.specs.declared.form.FormFault.TheVariants.{Memory};
 ghost use Rattle.grammar.specs.Stacks.{Stepped, suits, ended};
 ghost use Rattle.grammar.specs.Verdicts.{FormVerdict};
@@ -70,7 +70,7 @@ fn is_end(stack: &[Item]) -> bool
 
 // What each token of a script is there for, or where they stop being those of a script.
 pub fn uses(heap: Global, tokens: &[Token<'_>]) -> Result<Vec<Use>, FormFault>
-    ensures { All Classified tokens.now → FormVerdict (map lexeme tokens.now) result }
+    ensures { AllByRecursion Classified tokens.now → FormVerdict (map lexeme tokens.now) result }
 {
     let mut stack = Vec::new(heap);
     stack.push(Item::Top)?;

@@ -1,7 +1,7 @@
 -- Messages in a ring of cells: one more at the end, one less at the front, and the oldest.
 use Rattle.std.specs.Prelude.{◌≡◌, ℕ, zero, suc, ◌+◌, ◌-◌, ◌%◌, ◌<◌, ◌≤◌, ◌≢◌, List, [], ◌∷◌, ◌++◌, length, get_or, Some, slice_index, slice_index_or, slice_set, refl}
 use Rattle.std.proofs.Common.{◌∙◌, ap, arith}
-use Rattle.std.specs.List.{AllByRecursion as All}
+use Rattle.std.specs.List.{AllByRecursion}
 use Rattle.std.proofs.lemmas.List.{map-append, get_or-set_same, get_or-set_other}
 use Rattle.std.proofs.lemmas.List.FromFn.{map-range_with_len_more, length-map-range_with_len}
 use Rattle.rules.specs.Limits.{most_held}
@@ -14,7 +14,7 @@ use Rattle.kinds.specs.declared.holding.Holding.{Holding}
 pub length_ring : (f n : ℕ) → length (ring f n) ≡ n
 length_ring f n = length-map-range_with_len (λ j. j % most_held) f n
 
-ring_below : (f n : ℕ) → All (λ k. k < most_held) (ring f n)
+ring_below : (f n : ℕ) → AllByRecursion (λ k. k < most_held) (ring f n)
 ring_below f zero = tt
 ring_below f (suc n) = (omega arith, ring_below (f + 1) n)
 

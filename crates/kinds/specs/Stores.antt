@@ -1,6 +1,6 @@
 -- Where the messages that a port holds lie among its cells, and what a commit does there.
 use Rattle.std.specs.Prelude.{◌≡◌, ℕ, ◌<◌, ◌≤◌, ◌≢◌, List, [], map, length, Option, slice_index_or}
-use Rattle.std.specs.List.{AllByRecursion as All}
+use Rattle.std.specs.List.{AllByRecursion}
 use Rattle.rules.specs.declared.offer.Offer.{Offer}
 use Rattle.rules.specs.Limits.{most_held}
 use Rattle.rules.specs.Kinds.{Meaning, Kind, polled, held_after, handed}
@@ -13,7 +13,7 @@ pub record Fresh (μ : Meaning ℕ) : Type 0 where
 -- what a port holds has places among its cells
 pub record Within (μ : Meaning ℕ) : Type 0 where
   pub few : (p : ℕ) → length (μ.held p) ≤ most_held
-  pub places : (p : ℕ) → All (λ k. k < most_held) (μ.held p)
+  pub places : (p : ℕ) → AllByRecursion (λ k. k < most_held) (μ.held p)
 
 -- the messages at the places, in their order
 abbrev pub messages : {M : Type 0} → M → List M → List ℕ → List M

@@ -1,6 +1,6 @@
 -- Every list of calls has a replay, where the kinds and the policy keep their laws and every literal can be read or refused; and it can be computed.
 use Rattle.std.proofs.Common.{ℕ, List, [], ◌∷◌, Ok, Err, refl, inl, inr}
-use Rattle.std.specs.List.{AllByRecursion as All}
+use Rattle.std.specs.List.{AllByRecursion}
 use Rattle.std.proofs.ByRecursion.{All-weaker}
 use Rattle.script.specs.declared.fault.MessageFault.TheVariants.{InPost}
 use Rattle.rules.specs.States.{Setting}
@@ -32,7 +32,7 @@ module _ {M P : Type 0} (limit : ℕ) (w : Setting M) (kinds : LawfulKinds limit
       (_, _, turns cells page refl ok n.move n.policy n.names n.has.records n.has.next n.has.steps refl refl)
   served ρ traced look known (inr ok) = (_, _, looks refl refl refl)
 
-  unfoldable pub replayed : (ρ : Replay M P) → Traced w ρ → (calls : List Call) → All (Known w) calls → (answers : List Answer) × (ρ' : Replay M P) × Replays w k ρ calls answers ρ'
+  unfoldable pub replayed : (ρ : Replay M P) → Traced w ρ → (calls : List Call) → AllByRecursion (Known w) calls → (answers : List Answer) × (ρ' : Replay M P) × Replays w k ρ calls answers ρ'
   unfolding verdict served
   replayed ρ traced [] known = ([], ρ, refl)
   replayed ρ traced (c ∷ calls) known =

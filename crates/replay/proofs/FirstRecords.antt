@@ -3,7 +3,7 @@ use Rattle.std.proofs.Common.{◌≡◌, ℕ, suc, ◌<◌, ◌≤◌, Bool, tru
 use mathlib.Core.List.Memᴰ
 use mathlib.Core.List.{Memᴰ}
 use mathlib.Core.Bool.{or-false}
-use Rattle.std.specs.List.{AllByRecursion as All}
+use Rattle.std.specs.List.{AllByRecursion}
 use Rattle.std.proofs.lemmas.Bool.{both_ways, or_cases, or_left, or_right, eqb-true, eq-eqb}
 use Rattle.trace.specs.declared.record.Event.{Event}
 use Rattle.trace.specs.declared.record.Event.TheVariants as line
@@ -27,7 +27,7 @@ pub data StartsAfter {M : Type 0} : ℕ → List (Event M) → Type 0 where
 abbrev IsFire : {M : Type 0} → Event M → Type 0
 IsFire r = (t : ℕ) × (y : ℕ) × (r ≡ line.Fire t y)
 
-fires_after : {M : Type 0} (n : ℕ) (rs : List (Event M)) → All IsFire rs → StartsAfter n rs
+fires_after : {M : Type 0} (n : ℕ) (rs : List (Event M)) → AllByRecursion IsFire rs → StartsAfter n rs
 fires_after n [] h = none
 fires_after n (r ∷ rs) h = rw h.0.2 (fire (fires_after n rs h.1))
 
@@ -120,7 +120,7 @@ pub record RecordsTold {M : Type 0} (s : State M) (rs : List (Event M)) (s' : St
   pub after : StartsAfter s.last_task rest
   pub no_start : starts_of first ≡ []
   pub stamped : (tr : List (Record M)) → Owners tr s → (n : ℕ) → stamps tr n first ≡ among n ns
-  pub known : All (λ n. n ≤ s.last_task) ns
+  pub known : AllByRecursion (λ n. n ≤ s.last_task) ns
   pub syncs : SyncsTold s first s'
 
 module _ {M : Type 0} (w : Setting M) (s : State M) (h : Tidy s.tasks s.last_task s.last_sync) where

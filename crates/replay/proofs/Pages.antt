@@ -1,6 +1,6 @@
 -- What a call writes has room in the shortest page that is accepted.
 use Rattle.std.proofs.Common.{◌*◌, ◌≤◌, List, [], ◌∷◌, length, sym, ap, subst, inl, inr, arith}
-use Rattle.std.specs.List.{AllByRecursion as All}
+use Rattle.std.specs.List.{AllByRecursion}
 use Rattle.std.proofs.lemmas.List.{length-append}
 use Rattle.message.specs.Literals.{longest_literal}
 use Rattle.grammar.proofs.Parts.{all_last}
@@ -18,7 +18,7 @@ use Rattle.replay.proofs.Tracing.{replays_keep}
 use Rattle.replay.proofs.Readable.{Adds, Sound, begins_sound, SameOrWrites, serves_writes, serves_adds, serves_sound}
 
 module _ {M : Type 0} (w : Setting M) (short : (m : M) → length (w.messages.literal m) ≤ longest_literal) where
-  lines_few : (rs : List (Record M)) → All Proper rs → length (lines_of w rs) ≤ longest_line * length rs
+  lines_few : (rs : List (Record M)) → AllByRecursion Proper rs → length (lines_of w rs) ≤ longest_line * length rs
   lines_few [] h = omega arith
   lines_few (r ∷ rs) h = let a = lines_short w.messages.literal short r h.0 in let b = lines_few rs h.1 in rw length-append (omega arith)
 
@@ -32,7 +32,7 @@ module _ {M : Type 0} (w : Setting M) (short : (m : M) → length (w.messages.li
         go : SameOrWrites w k ρ c a ρ' → FitsPage a
         go (inl x) = x.1
         go (inr y) =
-            let proper = all_last Proper ρ.trace y.new (subst (All Proper) y.trace (adds.proper h.1)) in
+            let proper = all_last Proper ρ.trace y.new (subst (AllByRecursion Proper) y.trace (adds.proper h.1)) in
             let few : length y.new ≤ most_records = omega (arith, ap length y.trace, length-append ρ.trace y.new, adds.few) in
             subst FitsPage (sym y.answer) (omega (arith, lines_few y.new proper))
 

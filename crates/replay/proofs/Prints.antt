@@ -1,6 +1,6 @@
 -- The replays of the worked cases, computed.
 use Rattle.std.proofs.Common.{◌≡◌, ℕ, zero, suc, ◌<◌, Bool, true, false, List, [], ◌∷◌, ◌++◌, length, replicate, pos, Ok, Err, codes, refl, ap, ◌∙◌, subst, arith, lit<, lit≤}
-use Rattle.std.specs.List.{AllByRecursion as All}
+use Rattle.std.specs.List.{AllByRecursion}
 use Rattle.std.specs.Fmt.{digits}
 use Rattle.message.specs.declared.weight.Weight.{Weight}
 use Rattle.message.specs.Weights.{weight, weight_literal}
@@ -22,13 +22,13 @@ use Rattle.replay.proofs.Readings.{letter_reads}
 
 module _ {P : Type 0} (k : Policy P) (inside : Inside k) (p : P) (s : Script Weight) where
   -- the replay of calls with weights
-  computed : (calls : List Call) → All (Known (with_weights s)) calls
+  computed : (calls : List Call) → AllByRecursion (Known (with_weights s)) calls
       → (answers : List Answer) × (ρ : Replay Weight P) × Replays (with_weights s) k (begin_replay (with_weights s) p) calls answers ρ
   unfolding replayed
   computed calls known = let w = with_weights s in replayed most_held w (delivered_lawful most_held (lit≤ tt)) k inside (begin_replay w p) (begins_traced w p) calls known
 
 shows : {P : Type 0} {k : Policy P} {p : P} {text : List ℕ} {s : Script Weight} {calls : List Call} {answers : List Answer} {lines : List (List ℕ)}
-    → ScriptOf weight_literal text s → (inside : Inside k) (known : All (Known (with_weights s)) calls)
+    → ScriptOf weight_literal text s → (inside : Inside k) (known : AllByRecursion (Known (with_weights s)) calls)
     → (computed k inside p s calls known).0 ≡ answers
     → trace_bytes (with_weights s) (computed k inside p s calls known).1.trace ≡ printed lines
     → Shows k p text s calls answers lines
@@ -41,7 +41,7 @@ shows {k = k} {p = p} {s = s} {calls = calls} is inside known e f =
 idle_inside : Inside (longest_idle {P = Unit {0}})
 idle_inside = (longest_idle_law (Unit {0})).inside
 
-turns_known : (s : Script Weight) (n : ℕ) → All (Known (with_weights s)) (replicate n a_turn)
+turns_known : (s : Script Weight) (n : ℕ) → AllByRecursion (Known (with_weights s)) (replicate n a_turn)
 turns_known s zero = tt
 turns_known s (suc n) = (tt, turns_known s n)
 
@@ -96,7 +96,7 @@ post_shows = shows texts.post_text_is idle_inside known refl refl
     letter : ReadOrRefused (with_weights worked.post_script) (codes "x")
     letter = (Err (record { at = 0 }), letter_reads)
 
-    known : All (Known (with_weights worked.post_script)) worked.post_calls
+    known : AllByRecursion (Known (with_weights worked.post_script)) worked.post_calls
     known = (letter, (letter, (letter, (letter, ((Ok (weight (pos 7) (lit< tt)), refl), ((Ok (weight (pos 8) (lit< tt)), refl), omega arith))))))
 
 pub variable_shows : Shows {P = Unit {0}} longest_idle tt worked.variable_text worked.variable_script worked.variable_calls worked.variable_answers worked.variable_lines

@@ -1,6 +1,6 @@
 -- Every record of a replay is read back from its line.
 use Rattle.std.proofs.Common.{◌≡◌, ℕ, suc, ◌+◌, ◌<◌, ◌≤◌, ◌⊎◌, List, [], ◌∷◌, ◌++◌, length, sym, ap, subst, inl, inr, arith}
-use Rattle.std.specs.List.{AllByRecursion as All}
+use Rattle.std.specs.List.{AllByRecursion}
 use Rattle.std.proofs.ByRecursion.{All-append}
 use Rattle.std.proofs.lemmas.List.{length-append}
 use Rattle.rows.specs.Scripts.{Within}
@@ -21,7 +21,7 @@ use Rattle.replay.specs.Laws.{ReadableLaw, FitsPage}
 use Rattle.replay.proofs.Tracing.{Traced, begins_traced, Goes_on, serves_goes_on, serves_traced, replays_keep}
 
 -- records numbered after `n` are proper, where their numbers are small
-proper_numbered : {M : Type 0} (n k : ℕ) (rs : List (Event M)) → n + length rs ≤ largest → k < 4294967296 → All (Small largest) rs → All Proper (numbered n k rs)
+proper_numbered : {M : Type 0} (n k : ℕ) (rs : List (Event M)) → n + length rs ≤ largest → k < 4294967296 → AllByRecursion (Small largest) rs → AllByRecursion Proper (numbered n k rs)
 proper_numbered n k [] le lt h = tt
 proper_numbered n k (r ∷ rs) le lt h = (record { counted = omega arith; seq = omega arith; ms = lt; numbered = h.0 }, proper_numbered (suc n) k rs (omega arith) lt h.1)
 
@@ -35,14 +35,14 @@ pub record Writes {M P : Type 0} (w : Setting M) (ρ : Replay M P) (a : Answer) 
 -- few records are added, and they are proper
 pub record Adds {M P : Type 0} (ρ ρ' : Replay M P) : Type 0 where
   pub few : length ρ'.trace ≤ length ρ.trace + most_records
-  pub proper : All Proper ρ.trace → All Proper ρ'.trace
+  pub proper : AllByRecursion Proper ρ.trace → AllByRecursion Proper ρ'.trace
 
 adds_none : {M P : Type 0} (ρ ρ' : Replay M P) → ρ' ≡ ρ → Adds ρ ρ'
 adds_none ρ ρ' e = rw e (record { few = omega arith; proper = λ h. h })
 
 -- what is kept from call to call
 abbrev pub Sound : {M P : Type 0} → Setting M → Replay M P → Type 0
-Sound w ρ = Traced w ρ × All Proper ρ.trace
+Sound w ρ = Traced w ρ × AllByRecursion Proper ρ.trace
 
 pub begins_sound : {M P : Type 0} (w : Setting M) (p : P) → Sound w (begin_replay w p)
 begins_sound w p = (begins_traced w p, (record { counted = omega arith; seq = omega arith; ms = omega arith; numbered = omega arith }, tt))

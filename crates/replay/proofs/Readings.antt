@@ -1,7 +1,7 @@
 -- The literals of the worked cases.
 use Rattle.std.proofs.Common.{◌≤◌, [], ◌∷◌, pos, Ok, Err, codes, sym, refl, subst, arith, lit<}
 use Rattle.std.specs.Fmt.{digits}
-use Rattle.std.specs.List.{AllByRecursion as All}
+use Rattle.std.specs.List.{AllByRecursion}
 use Rattle.std.proofs.lemmas.Fmt.{decimal_injective}
 use Rattle.message.specs.Literals.{Reads}
 use Rattle.message.specs.Numerals.{LeadsNumber}
@@ -48,7 +48,7 @@ no_digit = record {
   none = λ z. refl;
   some = λ h. absurd (omega arith);
   small = omega arith;
-  stops = λ h m le e. let marks = subst (All (λ b. b ≤ 57)) (sym e) (signed_all (λ b. b ≤ 57) (omega arith) (λ d low high. high) (pos m) (omega arith)) in omega (arith, marks.0);
+  stops = λ h m le e. let marks = subst (AllByRecursion (λ b. b ≤ 57)) (sym e) (signed_all (λ b. b ≤ 57) (omega arith) (λ d low high. high) (pos m) (omega arith)) in omega (arith, marks.0);
 }
 
 pub letter_reads : Reads weight_literal (codes "x") (Err (record { at = 0 }))

@@ -4,7 +4,7 @@ use mathlib.Core.List.Memᴰ
 use mathlib.Core.List.{Memᴰ}
 use mathlib.Core.Logic.Dec
 use native.Mathlib.Decide.{dec_lt}
-use Rattle.std.specs.List.{AllByRecursion as All}
+use Rattle.std.specs.List.{AllByRecursion}
 use Rattle.std.proofs.lemmas.Bool.{cases_order}
 use Rattle.message.specs.declared.literal.LiteralFault.{LiteralFault}
 use Rattle.message.specs.Literals.{Reads}
@@ -71,7 +71,7 @@ module _ {M P : Type 0} (w : Setting M) (ρ : Replay M P) (c : Call) where
   abbrev pub Verdict : Type 0
   Verdict = ((f : CallFault) × Refuses w ρ c f) ⊎ Accepts w ρ c
 
-  first_of : (n : ℕ) (fs : List CallFault) → Rising n fs → All (λ f. Dec (Describes w ρ c f)) fs
+  first_of : (n : ℕ) (fs : List CallFault) → Rising n fs → AllByRecursion (λ f. Dec (Describes w ρ c f)) fs
       → ((f : CallFault) → Describes w ρ c f → Memᴰ f fs) → Verdict
   first_of n [] up tests covers = inr (λ f d. Memᴰ.not-nil (covers f d))
   first_of n (f ∷ fs) up (yes d, tests) covers = inl (f, record { describes = d; first = λ e less x. before e less (covers e x) })

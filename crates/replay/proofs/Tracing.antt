@@ -1,7 +1,7 @@
 -- A call that is served changes nothing, or does one thing that the rules allow; so every trace of a replay is a run.
 use Rattle.std.proofs.Common.{◌≡◌, ◌≤◌, ◌⊎◌, List, [], ◌∷◌, ◌++◌, length, sym, refl, subst, inl, inr, arith}
 use mathlib.Core.Logic.Dec
-use Rattle.std.specs.List.{AllByRecursion as All}
+use Rattle.std.specs.List.{AllByRecursion}
 use Rattle.trace.specs.declared.record.Event.{Event}
 use Rattle.rules.specs.States.{Setting}
 use Rattle.rules.specs.Runs as rules
@@ -46,7 +46,7 @@ module _ {M P : Type 0} (w : Setting M) (k : Policy P) where
 -- What each call keeps holds after all of them, and what each answer is, all are.
 module _ {M P : Type 0} (w : Setting M) (k : Policy P) (I : Replay M P → Type 0) (Q : Answer → Type 0)
     (each : (ρ : Replay M P) (c : Call) (a : Answer) (ρ' : Replay M P) → I ρ → Serves w k ρ c a ρ' → I ρ' × Q a) where
-  pub replays_keep : (ρ : Replay M P) (calls : List Call) (answers : List Answer) (ρ' : Replay M P) → I ρ → Replays w k ρ calls answers ρ' → I ρ' × All Q answers
+  pub replays_keep : (ρ : Replay M P) (calls : List Call) (answers : List Answer) (ρ' : Replay M P) → I ρ → Replays w k ρ calls answers ρ' → I ρ' × AllByRecursion Q answers
   replays_keep ρ [] [] ρ' i e = (subst I (sym e) i, tt)
   replays_keep ρ [] (a ∷ answers) ρ' i e = absurd e
   replays_keep ρ (c ∷ calls) [] ρ' i e = absurd e

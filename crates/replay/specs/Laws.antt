@@ -1,7 +1,7 @@
 -- What holds of every replay, whatever the calls, the policy, the script, the messages and the base event kinds.
 use Rattle.std.specs.Prelude.{◌≡◌, ℕ, suc, ◌+◌, ◌^◌, ◌<◌, ◌≤◌, ◌⊎◌, ◌↔◌, List, ◌++◌, length, Some, Option, Result}
 use mathlib.Core.List.{Memᴰ}
-use Rattle.std.specs.List.{slice_get, AllByRecursion as All}
+use Rattle.std.specs.List.{slice_get, AllByRecursion}
 use Rattle.message.specs.declared.literal.LiteralFault.{LiteralFault}
 use Rattle.message.specs.Literals.{Reads, longest_literal}
 use Rattle.rows.specs.Scripts.{Within}
@@ -43,7 +43,7 @@ Fits look = Unit {0}
 abbrev pub ReplayAnswers : Type 0 → Type 0 → Type 0
 ReplayAnswers M P = (limit : ℕ) (w : Setting M) → LawfulKinds limit w
     → ((bs : List ℕ) → (r : Result M LiteralFault) × Reads w.messages.literal bs r)
-    → (k : Policy P) → Inside k → (p : P) (calls : List Call) → All Fits calls
+    → (k : Policy P) → Inside k → (p : P) (calls : List Call) → AllByRecursion Fits calls
     → (answers : List Answer) × (ρ : Replay M P) × Replays w k (begin_replay w p) calls answers ρ
 
 -- One call, from a replay whose trace is a run: it changes nothing, or does one thing that the rules allow and writes its records, among them the fire records that are due and no others; and a look reports quiet exactly when no step exists.
@@ -59,7 +59,7 @@ ServeLaw M P = (limit : ℕ) (w : Setting M) → LawfulKinds limit w → (k : Po
 abbrev pub ReadableLaw : Type 0 → Type 0 → Type 0
 ReadableLaw M P = (w : Setting M) → Within w.script → Limited w.script
     → (k : Policy P) (p : P) (calls : List Call) (answers : List Answer) (ρ : Replay M P)
-    → Replays w k (begin_replay w p) calls answers ρ → All Proper ρ.trace
+    → Replays w k (begin_replay w p) calls answers ρ → AllByRecursion Proper ρ.trace
 
 abbrev pub FitsPage : Answer → Type 0
 FitsPage (wrote n) = n ≤ shortest_page
@@ -71,7 +71,7 @@ abbrev pub PageLaw : Type 0 → Type 0 → Type 0
 PageLaw M P = (w : Setting M) → Within w.script → Limited w.script
     → ((m : M) → length (w.messages.literal m) ≤ longest_literal)
     → (k : Policy P) (p : P) (calls : List Call) (answers : List Answer) (ρ : Replay M P)
-    → Replays w k (begin_replay w p) calls answers ρ → All FitsPage answers
+    → Replays w k (begin_replay w p) calls answers ρ → AllByRecursion FitsPage answers
 
 -- Stamps
 

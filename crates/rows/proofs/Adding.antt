@@ -1,7 +1,7 @@
 -- What the parts of a script add to a table, one after another.
 use Rattle.std.proofs.Common.{◌≡◌, ℕ, ◌≤◌, List, [], ◌∷◌, ◌++◌, length, decimal, sym, refl, ap, ◌∙◌, subst, ap₂, append_assoc, append-nil}
 use Rattle.std.specs.Fmt.{signed_decimal}
-use Rattle.std.specs.List.{AllByRecursion as All}
+use Rattle.std.specs.List.{AllByRecursion}
 use Rattle.grammar.specs.declared.words.PortKind.{PortKind}
 use Rattle.grammar.specs.declared.words.PortKind.TheVariants.{Channel, Mailbox, Ivar, Mvar}
 use Rattle.grammar.specs.declared.words.Keyword.{Keyword}
@@ -162,7 +162,7 @@ module _ {M : Type 0} (literal : M → List ℕ) where
   instr_adds g.emit w t = to (in_form Open word.Emit Close none) (as_nodes (with_instr t instr.Emit) (sym (append-nil t.nodes)))
   instr_adds g.again w t = to (in_form Open word.Again Close none) (as_nodes (with_instr t instr.Again) (sym (append-nil t.nodes)))
 
-  instrs_adds : (xs : List (s.Instr M)) → All InstrWithin xs → (t : Table M) → Adds literal (each (g.instr (spelling literal)) xs) t (after_instrs t xs)
+  instrs_adds : (xs : List (s.Instr M)) → AllByRecursion InstrWithin xs → (t : Table M) → Adds literal (each (g.instr (spelling literal)) xs) t (after_instrs t xs)
   instrs_adds [] w t = to none (as_rows t (sym (append-nil t.instrs)) (sym (append-nil t.nodes)))
   instrs_adds (x ∷ xs) w t =
       to (adds_append (instr_adds x w.0 t) (instrs_adds xs w.1 _))
@@ -172,7 +172,7 @@ module _ {M : Type 0} (literal : M → List ℕ) where
   body_adds b w t =
       in_form Open word.Task CloseTask (part_adds (number NewBody (decimal b.number)) (entry.Body b.number) (b.number, w.0, refl, refl) (instrs_adds b.instrs w.1 (with_entry t (entry.Body b.number))))
 
-  bodies_add : (bs : List (s.Body M)) → All BodyWithin bs → (t : Table M) → Adds literal (each (g.body (spelling literal)) bs) t (after_bodies t bs)
+  bodies_add : (bs : List (s.Body M)) → AllByRecursion BodyWithin bs → (t : Table M) → Adds literal (each (g.body (spelling literal)) bs) t (after_bodies t bs)
   bodies_add [] w t = none
   bodies_add (b ∷ bs) w t = adds_append (body_adds b w.0 t) (bodies_add bs w.1 (after_body t b))
 
@@ -182,7 +182,7 @@ module _ {M : Type 0} (literal : M → List ℕ) where
   port_adds Ivar n w t = in_one Open word.Ivar (number (NewPort Ivar) (decimal n)) Close (entry.Port Ivar n) (n, w, refl, refl)
   port_adds Mvar n w t = in_one Open word.Mvar (number (NewPort Mvar) (decimal n)) Close (entry.Port Mvar n) (n, w, refl, refl)
 
-  ports_add : (ps : List (g.Port ℕ)) → All (λ p. p.number ≤ last_port) ps → (t : Table M) → Adds literal (each (g.port (spelling literal)) ps) t (after_ports t ps)
+  ports_add : (ps : List (g.Port ℕ)) → AllByRecursion (λ p. p.number ≤ last_port) ps → (t : Table M) → Adds literal (each (g.port (spelling literal)) ps) t (after_ports t ps)
   ports_add [] w t = none
   ports_add (p ∷ ps) w t = adds_append (port_adds p.kind p.number w.0 t) (ports_add ps w.1 _)
 

@@ -1,6 +1,6 @@
 -- The rows while they are built from tokens and their uses.
 use Rattle.std.proofs.Common.{◌≡◌, ℕ, ◌<◌, ◌⊎◌, List, [], ◌∷◌, ◌++◌, map, length, sym, refl, ap, ◌∙◌, subst, inl, inr, append_assoc, append-nil}
-use Rattle.std.specs.List.{zip, AllByRecursion as All}
+use Rattle.std.specs.List.{zip, AllByRecursion}
 use Rattle.std.proofs.ByRecursion.{All-from_get_or}
 use Rattle.tokens.specs.declared.token.Token.{Token}
 use Rattle.tokens.specs.Places.{Nowhere}
@@ -39,10 +39,10 @@ zipped_parts (k ∷ ks) (u ∷ us) = ap (λ ps. part u (lexeme k) ∷ ps) (zippe
 abbrev Clear : {M : Type 0} → (M → List ℕ) → Part → Type 0
 Clear literal p = ((Ranged p.purpose (bytes p) → ⊥) → ⊥) × ((MessageFor literal p.purpose (bytes p) → ⊥) → ⊥)
 
-all_clear : {M : Type 0} (literal : M → List ℕ) (ps : List Part) → Nowhere (IsOutOfRange ps) → Nowhere (NoMessage literal ps) → All (Clear literal) ps
+all_clear : {M : Type 0} (literal : M → List ℕ) (ps : List Part) → Nowhere (IsOutOfRange ps) → Nowhere (NoMessage literal ps) → AllByRecursion (Clear literal) ps
 all_clear literal ps in-range messages = All-from_get_or (Clear literal) ps _ (λ i h. (in-range i, messages i))
 
-all_middle : {X : Type 0} (P : X → Type 0) (xs : List X) (y : X) (ys : List X) → All P (xs ++ (y ∷ ys)) → P y
+all_middle : {X : Type 0} (P : X → Type 0) (xs : List X) (y : X) (ys : List X) → AllByRecursion P (xs ++ (y ∷ ys)) → P y
 all_middle P [] y ys h = h.0
 all_middle P (x ∷ xs) y ys h = all_middle P xs y ys h.1
 
@@ -50,7 +50,7 @@ all_middle P (x ∷ xs) y ys h = all_middle P xs y ys h.1
 pub record SoFar {M : Type 0} (literal : M → List ℕ) (ks : List Token) (us : List Use) (left : List (Token × Use)) (t : Table M) : Type 0 where
   pub before : List Part
   pub all : before ++ pairs_parts left ≡ with_uses us (map lexeme ks)
-  pub adds : All (Clear literal) (with_uses us (map lexeme ks)) → Adds literal before blank_table t
+  pub adds : AllByRecursion (Clear literal) (with_uses us (map lexeme ks)) → Adds literal before blank_table t
 
 pub so_far_none : {M : Type 0} (literal : M → List ℕ) (ks : List Token) (us : List Use) (left : List (Token × Use)) (t : Table M) → left ≡ zip ks us → t ≡ blank_table → SoFar literal ks us left t
 so_far_none {M} literal ks us left t all e = record {
@@ -74,14 +74,14 @@ so_far_more {M} literal ks us left rest k u t v e adds-part h =
       before = h.before ++ (p ∷ []);
       all = append_assoc h.before (p ∷ []) (pairs_parts rest) ∙ here;
       adds = λ clear.
-          let P : List Part → Type 0 = λ ps. All (Clear literal) ps in
+          let P : List Part → Type 0 = λ ps. AllByRecursion (Clear literal) ps in
           adds_append literal (h.adds clear) (added literal p t v (all_middle (Clear literal) h.before p (pairs_parts rest) (subst P (sym here) clear)) adds-part);
     }
 
 -- a table that all parts of a script have made holds the script
 script_built : {M : Type 0} (literal : M → List ℕ) → ((a b : M) → literal a ≡ literal b → a ≡ b) → (ps : List Part) (r : Rows M) → Adds literal ps blank_table (table r) → (raw : g.Raw) → g.raw_parts raw ≡ ps → Built literal ps r
 script_built {M} literal one ps r made raw e =
-    let P : List Part → Type 0 = λ qs. All (Known literal) qs in
+    let P : List Part → Type 0 = λ qs. AllByRecursion (Known literal) qs in
     let x = script_of literal raw (subst P (sym e) (adds_known literal ps blank_table (table r) made)) in
     let written : g.script (spelling literal) x.0 ≡ ps = x.2 ∙ e in
     let Q : List Part → Type 0 = λ qs. Adds literal qs blank_table (after_script blank_table x.0) in

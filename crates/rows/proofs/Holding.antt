@@ -1,6 +1,6 @@
 -- The table after a script holds it.
 use Rattle.std.proofs.Common.{◌≡◌, ℕ, ◌<◌, ◌≤◌, Bool, true, false, cond, eqb, List, [], ◌∷◌, ◌++◌, length, get_or, drop, Some, None, Option, sym, refl, ap, ◌∙◌, subst, ap₂, inl, inr, append_assoc, append-nil, arith, eq-eqb, ne_eqb}
-use Rattle.std.specs.List.{AllByRecursion as All}
+use Rattle.std.specs.List.{AllByRecursion}
 use Rattle.std.proofs.lemmas.List.{length-set, get_or-set_same, get_or-set_other, get_or-replicate, drop_at}
 use Rattle.std.proofs.lemmas.Bool.{cases_eq}
 use Rattle.grammar.specs.Grammar as g
@@ -41,7 +41,7 @@ found_on slots n k x z h = elim (cases_eq n k) [
       ∙ ap (λ c. or_else (get_or slots k None) (cond c (Some x) z)) (sym (ne_eqb n k ne))
 ]
 
-ports_found : {M : Type 0} (ps : List (g.Port ℕ)) (t : Table M) → length t.ports ≡ 16 → All (λ p. p.number ≤ last_port) ps → (k : ℕ) → get_or (after_ports t ps).ports k None ≡ or_else (get_or t.ports k None) (port_kind ps k)
+ports_found : {M : Type 0} (ps : List (g.Port ℕ)) (t : Table M) → length t.ports ≡ 16 → AllByRecursion (λ p. p.number ≤ last_port) ps → (k : ℕ) → get_or (after_ports t ps).ports k None ≡ or_else (get_or t.ports k None) (port_kind ps k)
 ports_found [] t l w k = sym (or_none (get_or t.ports k None))
 ports_found (p ∷ ps) t l w k =
     ports_found ps (with_entry t (entry.Port p.kind p.number)) (length-set t.ports p.number _ ∙ l) w.1 k
@@ -52,7 +52,7 @@ abbrev start_found : {M : Type 0} → Table M → List (s.Body M) → ℕ → Op
 start_found t [] k = None
 start_found t (b ∷ bs) k = cond (eqb b.number k) (Some (length t.instrs)) (start_found (after_body t b) bs k)
 
-starts_found : {M : Type 0} (bs : List (s.Body M)) (t : Table M) → length t.starts ≡ 32 → All BodyWithin bs → (k : ℕ) → get_or (after_bodies t bs).starts k None ≡ or_else (get_or t.starts k None) (start_found t bs k)
+starts_found : {M : Type 0} (bs : List (s.Body M)) (t : Table M) → length t.starts ≡ 32 → AllByRecursion BodyWithin bs → (k : ℕ) → get_or (after_bodies t bs).starts k None ≡ or_else (get_or t.starts k None) (start_found t bs k)
 starts_found [] t l w k = sym (or_none (get_or t.starts k None))
 starts_found (b ∷ bs) t l w k =
     starts_found bs (after_body t b) (length-set t.starts b.number _ ∙ l) w.1 k

@@ -1,6 +1,6 @@
 -- Bytes are one entry at most, so parts make one table at most.
 use Rattle.std.proofs.Common.{◌≡◌, ℕ, ◌^◌, ◌<◌, ◌≤◌, List, [], ◌∷◌, decimal, sym, refl, ap, ◌∙◌, subst, arith}
-use Rattle.std.specs.List.{AllByRecursion as All}
+use Rattle.std.specs.List.{AllByRecursion}
 use Rattle.std.proofs.lemmas.Fmt.{decimal_injective, signed_decimal_injective}
 use Rattle.grammar.specs.declared.words.Use.{Use}
 use Rattle.grammar.specs.declared.words.Use.TheVariants.{Bracket, Head, Test, Number, Literal}
@@ -71,11 +71,11 @@ module _ {M : Type 0} (literal : M → List ℕ) where
   known_from (Number u) bs e h = (number_range u bs e h, tt)
   known_from (Literal u) bs e h = (tt, (h.0, h.1))
 
-  steps_known : (ps : List Part) (t u : Table M) → Steps literal ps t u → All (Known literal) ps
+  steps_known : (ps : List Part) (t u : Table M) → Steps literal ps t u → AllByRecursion (Known literal) ps
   steps_known [] t u h = tt
   steps_known (p ∷ ps) t u (e, of, rest) = (known_from p.purpose (bytes p) e of, steps_known ps (with_entry t e) u rest)
 
-  pub adds_known : (ps : List Part) (t u : Table M) → Adds literal ps t u → All (Known literal) ps
+  pub adds_known : (ps : List Part) (t u : Table M) → Adds literal ps t u → AllByRecursion (Known literal) ps
   adds_known ps t u h = steps_known ps t u h.steps
 
   module _ (one : (a b : M) → literal a ≡ literal b → a ≡ b) where

@@ -1,6 +1,6 @@
 -- A script as written, whose numbers are in range and whose literals are messages', is the writing of a script of values.
 use Rattle.std.proofs.Common.{◌≡◌, ℕ, ◌≤◌, List, [], ◌∷◌, ◌++◌, sym, refl, ap, ◌∙◌, ap₂}
-use Rattle.std.specs.List.{AllByRecursion as All}
+use Rattle.std.specs.List.{AllByRecursion}
 use Rattle.grammar.specs.declared.words.Keyword.TheVariants as word
 use Rattle.grammar.specs.declared.words.BracketUse.{BracketUse}
 use Rattle.grammar.specs.declared.words.BracketUse.TheVariants.{Open, OpenSecond, Close, CloseTask, CloseSync, CloseGuard, CloseNack}
@@ -19,7 +19,7 @@ use Rattle.rows.specs.Scripts.{spelling, ActionWithin, EventWithin, EventsWithin
 abbrev Bytes : Type 0
 Bytes = List ℕ
 
-all_parts : {X : Type 0} (P : X → Type 0) (xs ys : List X) → All P (xs ++ ys) → All P xs × All P ys
+all_parts : {X : Type 0} (P : X → Type 0) (xs ys : List X) → AllByRecursion P (xs ++ ys) → AllByRecursion P xs × AllByRecursion P ys
 all_parts P [] ys h = (tt, h)
 all_parts P (x ∷ xs) ys (h, k) = let r = all_parts P xs ys k in ((h, r.0), r.1)
 
@@ -28,15 +28,15 @@ module _ {M : Type 0} (literal : M → List ℕ) where
   Known p = Ranged p.purpose (bytes p) × MessageFor literal p.purpose (bytes p)
 
   -- what stands in a form
-  inside : (o : BracketUse) (k : word.the_data) (ps : List Part) (c : BracketUse) → All Known (form o k ps c) → All Known ps
+  inside : (o : BracketUse) (k : word.the_data) (ps : List Part) (c : BracketUse) → AllByRecursion Known (form o k ps c) → AllByRecursion Known ps
   inside o k ps c h = (all_parts Known ps _ h.1.1).0
 
-  action_of : (a : g.Action Bytes Bytes) → All Known (g.action {N = Bytes} as_written a) → (x : s.Action M) × ActionWithin x × (g.action {N = ℕ} (spelling literal) x ≡ g.action {N = Bytes} as_written a)
+  action_of : (a : g.Action Bytes Bytes) → AllByRecursion Known (g.action {N = Bytes} as_written a) → (x : s.Action M) × ActionWithin x × (g.action {N = ℕ} (spelling literal) x ≡ g.action {N = Bytes} as_written a)
   action_of (g.set bs) h = let m = h.1.1.0.1 in (g.set m.0, tt, ap (λ b. form Open word.Set (written InSet b ∷ []) Close) (sym m.1))
   action_of (g.add bs) h = let n = h.1.1.0.0 in (g.add n.0, n.1, ap (λ b. form Open word.Add (number Addend b ∷ []) Close) (sym n.2))
 
   mutual
-    event_of : (o : BracketUse) (e : g.Event Bytes Bytes Bytes) → All Known (g.event as_written o e) → (x : s.Event M) × EventWithin x × (g.event (spelling literal) o x ≡ g.event as_written o e)
+    event_of : (o : BracketUse) (e : g.Event Bytes Bytes Bytes) → AllByRecursion Known (g.event as_written o e) → (x : s.Event M) × EventWithin x × (g.event (spelling literal) o x ≡ g.event as_written o e)
     event_of o g.never h = (g.never, tt, refl)
     event_of o g.nack h = (g.nack, tt, refl)
     event_of o (g.always bs) h = let m = h.1.1.0.1 in (g.always m.0, tt, ap (λ b. form o word.Always (written InAlways b ∷ []) Close) (sym m.1))
@@ -62,7 +62,7 @@ module _ {M : Type 0} (literal : M → List ℕ) where
         let x = event_of Open e k.1 in
         (g.with_nack n.0 x.0, (n.1, x.1), ap₂ (λ b ps. form o word.WithNack (number NackBody b ∷ ps) CloseNack) (sym n.2) x.2)
 
-    events_of : (es : g.Events Bytes Bytes Bytes) → All Known (g.events as_written es) → (x : s.Events M) × EventsWithin x × (g.events (spelling literal) x ≡ g.events as_written es)
+    events_of : (es : g.Events Bytes Bytes Bytes) → AllByRecursion Known (g.events as_written es) → (x : s.Events M) × EventsWithin x × (g.events (spelling literal) x ≡ g.events as_written es)
     events_of g.none h = (g.none, tt, refl)
     events_of (g.more e es) h =
         let k = all_parts Known (g.event as_written Open e) (g.events as_written es) h in
@@ -70,7 +70,7 @@ module _ {M : Type 0} (literal : M → List ℕ) where
         let y = events_of es k.1 in
         (g.more x.0 y.0, (x.1, y.1), ap₂ (λ ps qs. ps ++ qs) x.2 y.2)
 
-  instr_of : (i : g.Instr Bytes Bytes Bytes) → All Known (g.instr as_written i) → (x : s.Instr M) × InstrWithin x × (g.instr (spelling literal) x ≡ g.instr as_written i)
+  instr_of : (i : g.Instr Bytes Bytes Bytes) → AllByRecursion Known (g.instr as_written i) → (x : s.Instr M) × InstrWithin x × (g.instr (spelling literal) x ≡ g.instr as_written i)
   instr_of (g.sync e) h =
       let x = event_of Open e (inside Open word.Sync (g.event as_written Open e) CloseSync h) in
       (g.sync x.0, x.1, ap (λ ps. form Open word.Sync ps CloseSync) x.2)
@@ -78,7 +78,7 @@ module _ {M : Type 0} (literal : M → List ℕ) where
   instr_of g.emit h = (g.emit, tt, refl)
   instr_of g.again h = (g.again, tt, refl)
 
-  instrs_of : (is : List (g.Instr Bytes Bytes Bytes)) → All Known (each (g.instr as_written) is) → (xs : List (s.Instr M)) × All InstrWithin xs × (each (g.instr (spelling literal)) xs ≡ each (g.instr as_written) is)
+  instrs_of : (is : List (g.Instr Bytes Bytes Bytes)) → AllByRecursion Known (each (g.instr as_written) is) → (xs : List (s.Instr M)) × AllByRecursion InstrWithin xs × (each (g.instr (spelling literal)) xs ≡ each (g.instr as_written) is)
   instrs_of [] h = ([], tt, refl)
   instrs_of (i ∷ is) h =
       let k = all_parts Known (g.instr as_written i) (each (g.instr as_written) is) h in
@@ -86,14 +86,14 @@ module _ {M : Type 0} (literal : M → List ℕ) where
       let y = instrs_of is k.1 in
       (x.0 ∷ y.0, (x.1, y.1), ap₂ (λ ps qs. ps ++ qs) x.2 y.2)
 
-  body_of : (b : g.Body Bytes Bytes Bytes) → All Known (g.body as_written b) → (x : s.Body M) × BodyWithin x × (g.body (spelling literal) x ≡ g.body as_written b)
+  body_of : (b : g.Body Bytes Bytes Bytes) → AllByRecursion Known (g.body as_written b) → (x : s.Body M) × BodyWithin x × (g.body (spelling literal) x ≡ g.body as_written b)
   body_of b h =
       let k = inside Open word.Task (number NewBody b.number ∷ each (g.instr as_written) b.instrs) CloseTask h in
       let n = k.0.0 in
       let x = instrs_of b.instrs k.1 in
       (record { number = n.0; instrs = x.0 }, (n.1, x.1), ap₂ (λ bs ps. form Open word.Task (number NewBody bs ∷ ps) CloseTask) (sym n.2) x.2)
 
-  bodies_of : (bs : List (g.Body Bytes Bytes Bytes)) → All Known (each (g.body as_written) bs) → (xs : List (s.Body M)) × All BodyWithin xs × (each (g.body (spelling literal)) xs ≡ each (g.body as_written) bs)
+  bodies_of : (bs : List (g.Body Bytes Bytes Bytes)) → AllByRecursion Known (each (g.body as_written) bs) → (xs : List (s.Body M)) × AllByRecursion BodyWithin xs × (each (g.body (spelling literal)) xs ≡ each (g.body as_written) bs)
   bodies_of [] h = ([], tt, refl)
   bodies_of (b ∷ bs) h =
       let k = all_parts Known (g.body as_written b) (each (g.body as_written) bs) h in
@@ -101,7 +101,7 @@ module _ {M : Type 0} (literal : M → List ℕ) where
       let y = bodies_of bs k.1 in
       (x.0 ∷ y.0, (x.1, y.1), ap₂ (λ ps qs. ps ++ qs) x.2 y.2)
 
-  ports_of : (ps : List (g.Port Bytes)) → All Known (each (g.port as_written) ps) → (xs : List (g.Port ℕ)) × All (λ p. p.number ≤ last_port) xs × (each (g.port (spelling literal)) xs ≡ each (g.port as_written) ps)
+  ports_of : (ps : List (g.Port Bytes)) → AllByRecursion Known (each (g.port as_written) ps) → (xs : List (g.Port ℕ)) × AllByRecursion (λ p. p.number ≤ last_port) xs × (each (g.port (spelling literal)) xs ≡ each (g.port as_written) ps)
   ports_of [] h = ([], tt, refl)
   ports_of (p ∷ ps) h =
       let k = all_parts Known (g.port as_written p) (each (g.port as_written) ps) h in
@@ -112,7 +112,7 @@ module _ {M : Type 0} (literal : M → List ℕ) where
         ap₂ (λ b qs. form Open (port_word p.kind) (number (NewPort p.kind) b ∷ []) Close ++ qs) (sym n.2) y.2,
       )
 
-  pub script_of : (raw : g.Raw) → All Known (g.raw_parts raw) → (x : s.Script M) × Within x × (g.script (spelling literal) x ≡ g.raw_parts raw)
+  pub script_of : (raw : g.Raw) → AllByRecursion Known (g.raw_parts raw) → (x : s.Script M) × Within x × (g.script (spelling literal) x ≡ g.raw_parts raw)
   script_of raw h =
       let k = all_parts Known (each (g.port as_written) raw.ports) _ h in
       let j = all_parts Known (g.body as_written raw.first) (each (g.body as_written) raw.others) k.1 in

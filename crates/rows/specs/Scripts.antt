@@ -2,7 +2,7 @@
 use Rattle.std.specs.Prelude.{◌≡◌, ℕ, ◌<◌, ◌≤◌, List, ℤ, decimal}
 use Rattle.std.specs.Int.Signed.{mag}
 use Rattle.std.specs.Fmt.{signed_decimal}
-use Rattle.std.specs.List.{AllByRecursion as All}
+use Rattle.std.specs.List.{AllByRecursion}
 use Rattle.tokens.specs.Tokens.{lexemes}
 use Rattle.grammar.specs.Grammar as g
 use Rattle.grammar.specs.Grammar.{Spelling, part_lexemes}
@@ -59,12 +59,12 @@ InstrWithin g.emit = Unit {0}
 InstrWithin g.again = Unit {0}
 
 abbrev pub BodyWithin : {M : Type 0} → Body M → Type 0
-BodyWithin b = (b.number ≤ last_body) × All InstrWithin b.instrs
+BodyWithin b = (b.number ≤ last_body) × AllByRecursion InstrWithin b.instrs
 
 pub record Within {M : Type 0} (s : Script M) : Type 0 where
-  pub ports : All (λ p. p.number ≤ last_port) s.ports
+  pub ports : AllByRecursion (λ p. p.number ≤ last_port) s.ports
   pub first : BodyWithin s.first
-  pub others : All BodyWithin s.others
+  pub others : AllByRecursion BodyWithin s.others
 
 -- the script that a text is, for a message kind: its tokens are just the script's
 pub record ScriptOf {M : Type 0} (literal : M → List ℕ) (text : List ℕ) (s : Script M) : Type 0 where

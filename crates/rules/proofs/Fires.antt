@@ -2,7 +2,7 @@
 use Rattle.std.proofs.Common.{◌≡◌, ℕ, suc, ◌<◌, Bool, true, false, cond, ◌⊎◌, List, [], ◌∷◌, ◌++◌, map, sym, refl, ap, ◌∙◌, subst, inl, inr, arith}
 use mathlib.Core.List.Memᴰ
 use mathlib.Core.List.{Memᴰ}
-use Rattle.std.specs.List.{AllByRecursion as All}
+use Rattle.std.specs.List.{AllByRecursion}
 use Rattle.std.proofs.lemmas.Bool.{both_ways}
 use Rattle.trace.specs.declared.record.Event.{Event}
 use Rattle.trace.specs.declared.record.Event.TheVariants as line
@@ -63,11 +63,11 @@ mem_fires σs (u ∷ us) t y b (Memᴰ.tail m) e f = Memᴰ.append_right (fire_o
 -- they stand as the tasks do
 
 module _ (n : ℕ) (xs rest : List ℕ) where
-  all_front : (P : ℕ → Type 0) → (xs ≡ []) ⊎ (xs ≡ n ∷ []) → P n → All P rest → All P (xs ++ rest)
-  all_front P (inl e) p h = subst (λ l. All P (l ++ rest)) (sym e) h
-  all_front P (inr e) p h = subst (λ l. All P (l ++ rest)) (sym e) (p, h)
+  all_front : (P : ℕ → Type 0) → (xs ≡ []) ⊎ (xs ≡ n ∷ []) → P n → AllByRecursion P rest → AllByRecursion P (xs ++ rest)
+  all_front P (inl e) p h = subst (λ l. AllByRecursion P (l ++ rest)) (sym e) h
+  all_front P (inr e) p h = subst (λ l. AllByRecursion P (l ++ rest)) (sym e) (p, h)
 
-  rising_front : (xs ≡ []) ⊎ (xs ≡ n ∷ []) → All (λ m. n < m) rest → Rising rest → Rising (xs ++ rest)
+  rising_front : (xs ≡ []) ⊎ (xs ≡ n ∷ []) → AllByRecursion (λ m. n < m) rest → Rising rest → Rising (xs ++ rest)
   rising_front (inl e) p h = subst (λ l. Rising (l ++ rest)) (sym e) h
   rising_front (inr e) p h = subst (λ l. Rising (l ++ rest)) (sym e) (p, h)
 
@@ -81,9 +81,9 @@ one_fire_of M σs n Fired = inl refl
 one_fire_of M σs n Void = inl refl
 one_fire_of M σs n (Pending y b) = one_fire_if M n y (pending_after σs y b)
 
-all_fired : {M : Type 0} (P : ℕ → Type 0) (σs : List Settlement) (ts : List (Task M)) → All P (map (λ t. t.number) ts) → All P (each_of fires_of (fires σs ts))
+all_fired : {M : Type 0} (P : ℕ → Type 0) (σs : List Settlement) (ts : List (Task M)) → AllByRecursion P (map (λ t. t.number) ts) → AllByRecursion P (each_of fires_of (fires σs ts))
 all_fired P σs [] h = tt
-all_fired {M} P σs (t ∷ ts) h = subst (All P) (sym (each_append fires_of (fire_of σs t.number t.nack) (fires σs ts))) (all_front t.number _ _ P (one_fire_of M σs t.number t.nack) h.0 (all_fired P σs ts h.1))
+all_fired {M} P σs (t ∷ ts) h = subst (AllByRecursion P) (sym (each_append fires_of (fire_of σs t.number t.nack) (fires σs ts))) (all_front t.number _ _ P (one_fire_of M σs t.number t.nack) h.0 (all_fired P σs ts h.1))
 
 rising_fired : {M : Type 0} (σs : List Settlement) (ts : List (Task M)) → Rising (map (λ t. t.number) ts) → Rising (each_of fires_of (fires σs ts))
 rising_fired σs [] h = tt
@@ -115,7 +115,7 @@ module _ {M : Type 0} (limit : ℕ) (w : Setting M) (c : LawfulKinds limit w) (t
   abbrev FiresFor : ℕ → ℕ → Type 0
   FiresFor n y = (t : Task M) × Memᴰ t s.tasks × (t.number ≡ n) × ((b : ℕ) × WasStarted r n y b × Outside (ActSettles a) y b)
 
-  told_none : (rs₀ : List (Event M)) → rs ≡ rs₀ → All (λ q. fires_of q ≡ []) rs₀ → ((y : ℕ) (l : Leaf M) → ActSettles a y l → ⊥) → FireTold r a
+  told_none : (rs₀ : List (Event M)) → rs ≡ rs₀ → AllByRecursion (λ q. fires_of q ≡ []) rs₀ → ((y : ℕ) (l : Leaf M) → ActSettles a y l → ⊥) → FireTold r a
   told_none rs₀ e h f = record { which = λ n y. (there n y, λ q. absurd (f y q.3.2.0 q.3.2.1)); order = subst Rising (sym (ap (each_of fires_of) e ∙ each_none fires_of rs₀ h)) tt }
     where
       there : (n y : ℕ) → Memᴰ (line.Fire n y) rs → FiresFor n y

@@ -1,6 +1,6 @@
 -- What ports hold: each act of a run leaves a port alone, gives it one message or takes one.
 use Rattle.std.proofs.Common.{◌≡◌, ℕ, ◌<◌, ◌≤◌, Bool, true, false, cond, eqb, ◌≢◌, ◌⊎◌, List, [], ◌∷◌, ◌++◌, length, Some, None, Option, sym, refl, ap, ◌∙◌, subst, inl, inr, arith}
-use Rattle.std.specs.List.{AllByRecursion as All}
+use Rattle.std.specs.List.{AllByRecursion}
 use Rattle.std.proofs.lemmas.Bool.{eqb-true, eqb-false, eq-eqb, ne_eqb, cond-true, cond-false, cond_both, true≢false}
 use Rattle.std.proofs.lemmas.List.{append-nil, append_assoc, length_push}
 use Rattle.std.proofs.ByRecursion.{All-weaker, All-push}
@@ -179,14 +179,14 @@ module _ {M : Type 0} (w : Setting M) (limit : ℕ) (K : Kind) (gs ts xs gs' ts'
   loses_more (a_give m _ a b c) f l h = rw (a, b, c, append-nil, h, append_assoc) refl
   loses_more (a_take some a b c) f l h = rw (a, b, c, l, append-nil, append_assoc) (h ∙ ap (λ zs. ts ++ zs) (first_out w K f xs some))
 
-  keeps_more : Change w limit K xs gs' ts' ys → K.holds ≡ true → K.keeps ≡ true → (gs ≡ xs) × All (λ m. oldest xs ≡ Some m) ts
-      → (gs ++ gs' ≡ ys) × All (λ m. oldest ys ≡ Some m) (ts ++ ts')
+  keeps_more : Change w limit K xs gs' ts' ys → K.holds ≡ true → K.keeps ≡ true → (gs ≡ xs) × AllByRecursion (λ m. oldest xs ≡ Some m) ts
+      → (gs ++ gs' ≡ ys) × AllByRecursion (λ m. oldest ys ≡ Some m) (ts ++ ts')
   keeps_more (nothing a b c) f l h = rw (a, b, c, append-nil gs, append-nil ts) h
   keeps_more (a_give m _ a b c) f l h = rw (a, b, c, append-nil, h.0) (refl, All-weaker _ _ (oldest_stays xs (m ∷ [])) ts h.1)
   keeps_more (a_take some a b c) f l h = rw (a, b, c, l, append-nil) (h.0, All-push _ ts _ h.1 (ap oldest (first_out w K f xs some)))
 
-  none_more : Change w limit K xs gs' ts' ys → K.holds ≡ false → (gs ≡ []) × (xs ≡ []) × All (λ m. m ≡ w.messages.blank) ts
-      → (gs ++ gs' ≡ []) × (ys ≡ []) × All (λ m. m ≡ w.messages.blank) (ts ++ ts')
+  none_more : Change w limit K xs gs' ts' ys → K.holds ≡ false → (gs ≡ []) × (xs ≡ []) × AllByRecursion (λ m. m ≡ w.messages.blank) ts
+      → (gs ++ gs' ≡ []) × (ys ≡ []) × AllByRecursion (λ m. m ≡ w.messages.blank) (ts ++ ts')
   none_more (nothing a b c) f h = rw (a, b, c, append-nil gs, append-nil ts) h
   none_more (a_give m d a b c) f h = absurd (true≢false (sym d.1 ∙ f))
   none_more (a_take some a b c) f h = rw (a, b, c, append-nil, h.1)

@@ -1,6 +1,6 @@
 -- A sync of a limited script has few leaves, and offers few.
 use Rattle.std.proofs.Common.{◌≡◌, ℕ, zero, suc, ◌+◌, ◌≤◌, eqb, List, [], ◌∷◌, length, Some, None, Option, subst, arith}
-use Rattle.std.specs.List.{slice_get, AllByRecursion as All}
+use Rattle.std.specs.List.{slice_get, AllByRecursion}
 use Rattle.std.proofs.ByRecursion.{All-weaker}
 use Rattle.std.proofs.lemmas.List.{length-map, length-append}
 use Rattle.std.proofs.lemmas.Bool.{cond_both}
@@ -36,21 +36,21 @@ mutual
 
 -- an instruction of a limited script is limited
 
-nth_all : {X : Type 0} (P : X → Type 0) (xs : List X) (i : ℕ) (x : X) → All P xs → slice_get xs i ≡ Some x → P x
+nth_all : {X : Type 0} (P : X → Type 0) (xs : List X) (i : ℕ) (x : X) → AllByRecursion P xs → slice_get xs i ≡ Some x → P x
 nth_all P [] i x h e = absurd (let z : ◌≡◌ {A = ℕ} 0 1 = cc in omega arith)
 nth_all P (y ∷ ys) zero x h e = let f : y ≡ x = cc in subst P f h.0
 nth_all P (y ∷ ys) (suc i) x h e = nth_all P ys i x h.1 e
 
 -- what holds of the instructions of every body, and of none, holds of those of the body `n`
-pub body_all : {M : Type 0} (P : List (Instr M) → Type 0) → P [] → (bs : List (Body M)) (n : ℕ) → All (λ b. P b.instrs) bs → P (or_none (find_body bs n))
+pub body_all : {M : Type 0} (P : List (Instr M) → Type 0) → P [] → (bs : List (Body M)) (n : ℕ) → AllByRecursion (λ b. P b.instrs) bs → P (or_none (find_body bs n))
 body_all P none [] n h = none
 body_all P none (b ∷ bs) n h = let r = body_all P none bs n h.1 in cond_both (eqb b.number n) (Some b.instrs) (find_body bs n) (λ o. P (or_none o)) (λ _. h.0) (λ _. r)
 
-pub instr_all : {M : Type 0} (P : Instr M → Type 0) (w : Setting M) → All (λ b. All P b.instrs) (bodies w.script) → (t : Task M) (i : Instr M) → instr_at w t ≡ Some i → P i
-instr_all P w h t i at = nth_all P (or_none (find_body (bodies w.script) t.body)) t.place i (body_all (All P) tt (bodies w.script) t.body h) at
+pub instr_all : {M : Type 0} (P : Instr M → Type 0) (w : Setting M) → AllByRecursion (λ b. AllByRecursion P b.instrs) (bodies w.script) → (t : Task M) (i : Instr M) → instr_at w t ≡ Some i → P i
+instr_all P w h t i at = nth_all P (or_none (find_body (bodies w.script) t.body)) t.place i (body_all (AllByRecursion P) tt (bodies w.script) t.body h) at
 
 pub instr_limited : {M : Type 0} (w : Setting M) → Limited w.script → (t : Task M) (i : Instr M) → instr_at w t ≡ Some i → InstrLimited i
-instr_limited w h = instr_all InstrLimited w (All-weaker _ (λ b. All InstrLimited b.instrs) (λ b p. p.1) (bodies w.script) h)
+instr_limited w h = instr_all InstrLimited w (All-weaker _ (λ b. AllByRecursion InstrLimited b.instrs) (λ b p. p.1) (bodies w.script) h)
 
 pub sync_leaves_few : {M : Type 0} (w : Setting M) → Limited w.script → (t : Task M) (e : Event M) → instr_at w t ≡ Some (g.sync e) → (s : Sign) (k n : ℕ) → length (leaves s k n e) ≤ most_leaves
 sync_leaves_few w h t e at s k n = let a = leaves_few s k n e in let b = instr_limited w h t (g.sync e) at in omega arith

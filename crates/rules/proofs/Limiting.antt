@@ -1,6 +1,6 @@
 -- A script in whose tokens nothing is over its limit keeps its limits.
 use Rattle.std.proofs.Common.{◌≡◌, ℕ, zero, suc, ◌+◌, ◌<◌, ◌≤◌, List, [], ◌∷◌, ◌++◌, length, take, ℤ, sym, refl, ap, ◌∙◌, subst, inr, arith}
-use Rattle.std.specs.List.{AllByRecursion as All}
+use Rattle.std.specs.List.{AllByRecursion}
 use Rattle.tokens.specs.Tokens.{closing, atom}
 use Rattle.grammar.specs.declared.words.Keyword.{Keyword}
 use Rattle.grammar.specs.declared.words.Keyword.TheVariants as word
@@ -140,7 +140,7 @@ instr_told σ g.again t h = (omega (arith, h 0), refl, tt)
 -- the instructions of a body are counted from none on
 
 instrs_limited : {M : Type 0} (σ : g.Spelling ℕ ℤ M) (is : List (Instr M)) (t : Tally) → t.instrs ≤ most_instrs → Kept t (g.each (g.instr σ) is)
-    → (t.instrs + length is ≤ most_instrs) × All InstrLimited is
+    → (t.instrs + length is ≤ most_instrs) × AllByRecursion InstrLimited is
 instrs_limited σ [] t few h = (omega arith, tt)
 instrs_limited σ (i ∷ is) t few h =
     let told = instr_told σ i t (kept_left t (g.instr σ i) (g.each (g.instr σ) is) h) in
@@ -148,7 +148,7 @@ instrs_limited σ (i ∷ is) t few h =
     (omega (arith, told.1, rest.0), (told.2, rest.1))
 
 bodies_limited : {M : Type 0} (σ : g.Spelling ℕ ℤ M) (bs : List (Body M)) (t : Tally) → Kept t (g.each (g.body σ) bs)
-    → All (λ b. (length b.instrs ≤ most_instrs) × All InstrLimited b.instrs) bs
+    → AllByRecursion (λ b. (length b.instrs ≤ most_instrs) × AllByRecursion InstrLimited b.instrs) bs
 bodies_limited σ [] t h = tt
 bodies_limited σ (b ∷ bs) t h =
     let inside = kept_inside Open word.Task (g.number NewBody (σ.number b.number) ∷ g.each (g.instr σ) b.instrs) CloseTask t (kept_left t (g.body σ b) (g.each (g.body σ) bs) h) in

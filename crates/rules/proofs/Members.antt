@@ -2,7 +2,7 @@
 use Rattle.std.proofs.Common.{◌≡◌, Bool, true, false, cond, ◌⊎◌, List, [], ◌∷◌, filter, sym, refl, ap, ◌∙◌, subst, inl, inr}
 use mathlib.Core.List.Memᴰ
 use mathlib.Core.List.{Memᴰ}
-use Rattle.std.specs.List.{AllByRecursion as All}
+use Rattle.std.specs.List.{AllByRecursion}
 use Rattle.std.proofs.lemmas.Bool.{both_ways}
 
 kept_here : {X : Type 0} (b : Bool) (x y : X) (zs : List X) → x ≡ y → b ≡ true → Memᴰ x (cond b (y ∷ zs) zs)
@@ -31,11 +31,11 @@ mem_kept {X} p x (y ∷ ys) m = go (mem_kept p x ys) (kept_cases (p y) x y (filt
     go r (inl q) = (Memᴰ.head q.0, ap p q.0 ∙ q.1)
     go r (inr n) = (Memᴰ.tail (r n).0, (r n).1)
 
-pub all_by_mem : {X : Type 0} (P : X → Type 0) (xs : List X) → ((x : X) → Memᴰ x xs → P x) → All P xs
+pub all_by_mem : {X : Type 0} (P : X → Type 0) (xs : List X) → ((x : X) → Memᴰ x xs → P x) → AllByRecursion P xs
 all_by_mem P [] f = tt
 all_by_mem P (x ∷ xs) f = (f x (Memᴰ.head refl), all_by_mem P xs (λ y m. f y (Memᴰ.tail m)))
 
-pub mem_all : {X : Type 0} (P : X → Type 0) (x : X) (xs : List X) → All P xs → Memᴰ x xs → P x
+pub mem_all : {X : Type 0} (P : X → Type 0) (x : X) (xs : List X) → AllByRecursion P xs → Memᴰ x xs → P x
 mem_all P x [] h m = absurd (Memᴰ.not-nil m)
 mem_all P x (y ∷ ys) h (Memᴰ.head e) = subst P (sym e) h.0
 mem_all P x (y ∷ ys) h (Memᴰ.tail m) = mem_all P x ys h.1 m

@@ -2,7 +2,7 @@
 use Rattle.std.proofs.Common.{◌≡◌, ℕ, zero, suc, ◌+◌, ◌<◌, ◌≤◌, ◌⊎◌, List, [], ◌∷◌, ◌++◌, map, length, Some, None, Option, sym, refl, ap, ◌∙◌, subst, inl, inr, append-nil, arith}
 use mathlib.Core.List.Memᴰ
 use mathlib.Core.List.{map-append, Memᴰ}
-use Rattle.std.specs.List.{range_with_len, AllByRecursion as All}
+use Rattle.std.specs.List.{range_with_len, AllByRecursion}
 use Rattle.std.proofs.ByRecursion.{All-append, All-weaker, All-map}
 use Rattle.std.proofs.lemmas.List.{length-append}
 use Rattle.std.proofs.lemmas.Bool.{cond_both}
@@ -32,7 +32,7 @@ counting_on : (a m b n k : ℕ) → a + m ≡ b → m + n ≡ k → range_with_l
 counting_on a zero b n k e f = let d : a ≡ b = omega arith in let g : n ≡ k = omega arith in rw (d, g)
 counting_on a (suc m) b n k e f = let g : k ≡ suc (m + n) = omega arith in rw g (ap (λ ns. a ∷ ns) (counting_on (a + 1) m b n (m + n) (omega arith) refl))
 
-never_falling_append : (n : ℕ) (xs ys : List ℕ) → All (λ x. x ≤ n) xs → All (λ y. n ≤ y) ys → NeverFalling xs → NeverFalling ys → NeverFalling (xs ++ ys)
+never_falling_append : (n : ℕ) (xs ys : List ℕ) → AllByRecursion (λ x. x ≤ n) xs → AllByRecursion (λ y. n ≤ y) ys → NeverFalling xs → NeverFalling ys → NeverFalling (xs ++ ys)
 never_falling_append n [] ys a b p q = q
 never_falling_append n (x ∷ xs) ys a b p q = let le = a.0 in
     (All-append (λ y. x ≤ y) xs ys p.0 (All-weaker (λ y. n ≤ y) (λ y. x ≤ y) (λ y lt. omega arith) ys b), never_falling_append n xs ys a.1 b p.1 q)
@@ -47,7 +47,7 @@ pub length_numbered : {M : Type 0} (n k : ℕ) (rs : List (Event M)) → length 
 length_numbered n k [] = refl
 length_numbered n k (r ∷ rs) = ap suc (length_numbered (suc n) k rs)
 
-all_numbered : {M : Type 0} (P : ℕ → Type 0) (n k : ℕ) (rs : List (Event M)) → P k → All (λ r. P r.ms) (numbered n k rs)
+all_numbered : {M : Type 0} (P : ℕ → Type 0) (n k : ℕ) (rs : List (Event M)) → P k → AllByRecursion (λ r. P r.ms) (numbered n k rs)
 all_numbered P n k [] p = tt
 all_numbered P n k (r ∷ rs) p = (p, all_numbered P (suc n) k rs p)
 
@@ -175,7 +175,7 @@ module _ {M : Type 0} (tr : List (Record M)) (s : State M) (rs : List (Event M))
   counted_more : (f : Event M → List ℕ) (n n' : ℕ) → each_of f (happenings tr) ≡ range_with_len 1 n → range_with_len 1 n ++ each_of f rs ≡ range_with_len 1 n' → each_of f (happenings after) ≡ range_with_len 1 n'
   counted_more f n n' e g = each_more f tr (length tr) s'.clock rs ∙ ap (λ ns. ns ++ each_of f rs) e ∙ g
 
-  past_more : All (λ r. r.ms ≤ s'.clock) after
+  past_more : AllByRecursion (λ r. r.ms ≤ s'.clock) after
   past_more = All-append (λ r. r.ms ≤ s'.clock) tr _
       (All-weaker (λ r. r.ms ≤ s.clock) (λ r. r.ms ≤ s'.clock) (λ r l. omega (arith, a.clock)) tr c.past)
       (all_numbered (λ k. k ≤ s'.clock) (length tr) s'.clock rs (omega arith))

@@ -2,7 +2,7 @@
 use Rattle.std.proofs.Common.{◌≡◌, ℕ, suc, ◌+◌, ◌*◌, ◌<◌, ◌≤◌, Bool, true, false, cond, not, ◌&&◌, eqb, ◌≢◌, ◌⊎◌, List, [], ◌∷◌, ◌++◌, map, length, Some, None, filter, Option, sym, refl, ap, ◌∙◌, subst, subst₂, inl, inr, ⊎_elim, le_trans, arith}
 use mathlib.Core.List.Memᴰ
 use mathlib.Core.List.{Memᴰ}
-use Rattle.std.specs.List.{AllByRecursion as All}
+use Rattle.std.specs.List.{AllByRecursion}
 use Rattle.std.proofs.lemmas.List.{append-nil, append_assoc, length-append}
 use Rattle.std.proofs.lemmas.List.Elements.{filter-append}
 use Rattle.std.proofs.lemmas.List.Filters.{length-filter_both, sum_by-filter_both}
@@ -65,7 +65,7 @@ enrolled_each_others y (o ∷ os) μ f = enrolled_each_others y os (enrolled o �
 withdrawn_others : {M : Type 0} (y z : ℕ) (μ : Meaning M) → y ≢ z → of_sync y (withdrawn z μ).offers ≡ of_sync y μ.offers
 withdrawn_others y z μ d = kept_kept _ _ (λ (o : Offer) e. ap not (ne_eqb o.sync z (λ f. d (sym (eqb-true o.sync y e) ∙ f)))) μ.offers
 
-withdrawn_each_others : {M : Type 0} (y : ℕ) (σs : List Settlement) (μ : Meaning M) → All (λ σ. y ≢ σ.sync) σs → of_sync y (withdrawn_each σs μ).offers ≡ of_sync y μ.offers
+withdrawn_each_others : {M : Type 0} (y : ℕ) (σs : List Settlement) (μ : Meaning M) → AllByRecursion (λ σ. y ≢ σ.sync) σs → of_sync y (withdrawn_each σs μ).offers ≡ of_sync y μ.offers
 withdrawn_each_others y [] μ f = refl
 withdrawn_each_others y (σ ∷ σs) μ f = withdrawn_each_others y σs (withdrawn σ.sync μ) f.1 ∙ withdrawn_others y σ.sync μ f.0
 
@@ -240,7 +240,7 @@ module _ {M : Type 0} (w : Setting M) (s : State M) (sound : Sound w s) (live : 
 -- where syncs are settled
 
 offer_settled : {M : Type 0} (w : Setting M) (μ ν : BaseKind → Meaning M) (ts us : List (Task M)) (σs : List Settlement) → ((c : BaseKind) → (ν c).offers ≡ (μ c).offers)
-    → ((u : Task M) (y : ℕ) (ls : List (Leaf M)) → Memᴰ u us → u.wait ≡ waiting y ls → Memᴰ u ts × All (λ σ. y ≢ σ.sync) σs)
+    → ((u : Task M) (y : ℕ) (ls : List (Leaf M)) → Memᴰ u us → u.wait ≡ waiting y ls → Memᴰ u ts × AllByRecursion (λ σ. y ≢ σ.sync) σs)
     → EachOffers w μ ts → EachOffers w (λ c. withdrawn_each σs (ν c)) (map (told_of σs) us)
 offer_settled {M} w μ ν ts us σs e f h u y ls m d = let p = Memᴰ.of_map (told_of σs) us m in
     let k : p.0.wait ≡ waiting y ls = ap (λ (v : Task M). v.wait) p.2 ∙ d in

@@ -1,7 +1,7 @@
 -- What the records of a step are, and what lists of records show.
 use Rattle.std.proofs.Common.{◌≡◌, ℕ, suc, List, [], ◌∷◌, ◌++◌, sym, refl, ap, ◌∙◌, append_assoc}
 use mathlib.Core.List.{map-append}
-use Rattle.std.specs.List.{AllByRecursion as All}
+use Rattle.std.specs.List.{AllByRecursion}
 use Rattle.std.proofs.ByRecursion.{All-append}
 use Rattle.trace.specs.declared.record.Event.{Event}
 use Rattle.trace.specs.declared.record.Event.TheVariants as line
@@ -17,21 +17,21 @@ use Rattle.rules.specs.Laws.{happenings, each_of}
 -- Those after a settlement are fire records, and those after a sync are start records.
 module _ {M : Type 0} (P : Event M → Type 0) where
   module _ (h : (n y : ℕ) → P (line.Fire n y)) where
-    all_fire_if : (n y : ℕ) (k : Nack) → All P (fire_if n y k)
+    all_fire_if : (n y : ℕ) (k : Nack) → AllByRecursion P (fire_if n y k)
     all_fire_if n y Fired = (h n y, tt)
     all_fire_if n y Void = tt
     all_fire_if n y (Pending z b) = tt
 
-    all_fire_of : (σs : List Settlement) (n : ℕ) (k : Nack) → All P (fire_of σs n k)
+    all_fire_of : (σs : List Settlement) (n : ℕ) (k : Nack) → AllByRecursion P (fire_of σs n k)
     all_fire_of σs n Fired = tt
     all_fire_of σs n Void = tt
     all_fire_of σs n (Pending y b) = all_fire_if n y (pending_after σs y b)
 
-    pub all_fires : (σs : List Settlement) (ts : List (Task M)) → All P (fires σs ts)
+    pub all_fires : (σs : List Settlement) (ts : List (Task M)) → AllByRecursion P (fires σs ts)
     all_fires σs [] = tt
     all_fires σs (t ∷ ts) = All-append P (fire_of σs t.number t.nack) (fires σs ts) (all_fire_of σs t.number t.nack) (all_fires σs ts)
 
-  pub all_starts : ((n b t y : ℕ) → P (line.Start n b t y)) → (t y n : ℕ) (bs : List ℕ) → All P (nack_starts t y n bs)
+  pub all_starts : ((n b t y : ℕ) → P (line.Start n b t y)) → (t y n : ℕ) (bs : List ℕ) → AllByRecursion P (nack_starts t y n bs)
   all_starts h t y n [] = tt
   all_starts h t y n (b ∷ bs) = (h n b t y, all_starts h t y (suc n) bs)
 
@@ -41,7 +41,7 @@ pub each_append : {M X : Type 0} (f : Event M → List X) (rs qs : List (Event M
 each_append f [] qs = refl
 each_append f (r ∷ rs) qs = ap (λ xs. f r ++ xs) (each_append f rs qs) ∙ sym (append_assoc (f r) (each_of f rs) (each_of f qs))
 
-pub each_none : {M X : Type 0} (f : Event M → List X) (rs : List (Event M)) → All (λ r. f r ≡ []) rs → each_of f rs ≡ []
+pub each_none : {M X : Type 0} (f : Event M → List X) (rs : List (Event M)) → AllByRecursion (λ r. f r ≡ []) rs → each_of f rs ≡ []
 each_none f [] h = refl
 each_none f (r ∷ rs) h = λ i. h.0 i ++ each_none f rs h.1 i
 

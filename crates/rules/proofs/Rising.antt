@@ -1,7 +1,7 @@
 -- In every run the live tasks stand by rising number.
 use Rattle.std.proofs.Common.{◌≡◌, ℕ, suc, ◌<◌, ◌≤◌, Bool, cond, eqb, List, [], ◌∷◌, ◌++◌, map, filter, sym, refl, ap, ◌∙◌, subst, arith}
 use mathlib.Core.List.{map-append}
-use Rattle.std.specs.List.{AllByRecursion as All}
+use Rattle.std.specs.List.{AllByRecursion}
 use Rattle.std.proofs.ByRecursion.{All-weaker, All-append, All-map}
 use Rattle.std.proofs.lemmas.Bool.{cond_both, eqb-true}
 use Rattle.trace.specs.declared.record.Event.{Event}
@@ -34,9 +34,9 @@ told_numbers σs (u ∷ us) = ap (λ ns. u.number ∷ ns) (told_numbers σs us)
 
 -- what leaves tasks out
 
-all_kept : {X : Type 0} (P : ℕ → Type 0) (f : X → ℕ) (p : X → Bool) (xs : List X) → All P (map f xs) → All P (map f (filter p xs))
+all_kept : {X : Type 0} (P : ℕ → Type 0) (f : X → ℕ) (p : X → Bool) (xs : List X) → AllByRecursion P (map f xs) → AllByRecursion P (map f (filter p xs))
 all_kept P f p [] h = tt
-all_kept {X} P f p (x ∷ xs) h = cond_both (p x) (x ∷ filter p xs) (filter p xs) (λ (l : List X). All P (map f l)) (λ _. (h.0, all_kept P f p xs h.1)) (λ _. all_kept P f p xs h.1)
+all_kept {X} P f p (x ∷ xs) h = cond_both (p x) (x ∷ filter p xs) (filter p xs) (λ (l : List X). AllByRecursion P (map f l)) (λ _. (h.0, all_kept P f p xs h.1)) (λ _. all_kept P f p xs h.1)
 
 rising_kept : {X : Type 0} (f : X → ℕ) (p : X → Bool) (xs : List X) → Rising (map f xs) → Rising (map f (filter p xs))
 rising_kept f p [] h = tt
@@ -44,7 +44,7 @@ rising_kept {X} f p (x ∷ xs) h = cond_both (p x) (x ∷ filter p xs) (filter p
 
 -- what starts tasks
 
-rising_append : (n : ℕ) (xs ys : List ℕ) → All (λ x. x ≤ n) xs → All (λ y. n < y) ys → Rising xs → Rising ys → Rising (xs ++ ys)
+rising_append : (n : ℕ) (xs ys : List ℕ) → AllByRecursion (λ x. x ≤ n) xs → AllByRecursion (λ y. n < y) ys → Rising xs → Rising ys → Rising (xs ++ ys)
 rising_append n [] ys a b p q = q
 rising_append n (x ∷ xs) ys a b p q = let le = a.0 in
     (All-append (λ y. x < y) xs ys p.0 (All-weaker (λ y. n < y) (λ y. x < y) (λ y lt. omega arith) ys b), rising_append n xs ys a.1 b p.1 q)

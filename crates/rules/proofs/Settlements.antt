@@ -2,7 +2,7 @@
 use Rattle.std.proofs.Common.{◌≡◌, ℕ, suc, ◌≢◌, List, [], map, Some, Option, sym, refl, ap, ◌∙◌, subst, arith}
 use mathlib.Core.List.Memᴰ
 use mathlib.Core.List.{Memᴰ}
-use Rattle.std.specs.List.{AllByRecursion as All}
+use Rattle.std.specs.List.{AllByRecursion}
 use Rattle.grammar.specs.declared.words.PortKind.{PortKind}
 use Rattle.rows.specs.Rows.{port_kind}
 use Rattle.trace.specs.declared.record.Event.{Event}
@@ -73,7 +73,7 @@ alone_gives w s none t y i (due d) e =
 
 -- every act
 
-step_says : {M : Type 0} (w : Setting M) (s : State M) → Sound w s → (v : Move) (rs : List (Event M)) (s' : State M) → Step w s v rs s' → All (Says w s s') rs
+step_says : {M : Type 0} (w : Setting M) (s : State M) → Sound w s → (v : Move) (rs : List (Event M)) (s' : State M) → Step w s v rs s' → AllByRecursion (Says w s s') rs
 step_says w s h v rs s' (ends t r _ _ f e) = rw f (tt, tt)
 step_says w s h v rs s' (emits t r _ _ f e) = rw f (tt, tt)
 step_says w s h v rs s' (returns t r _ _ f e) = rw f (tt, tt)
@@ -128,7 +128,7 @@ step_says {M} w s h v rs s' (settles_pair g r y i z j p l k a d b d' o σs _ f e
           taker_after = after r k g.register (put_self r' r (put g' s.tasks) (put_mem g' r s.tasks b.live (λ t. two (sym t))) refl);
         }
 
-act_says : {M : Type 0} (w : Setting M) (s : State M) → Sound w s → (rs : List (Event M)) (s' : State M) → Act w s rs s' → All (Says w s s') rs
+act_says : {M : Type 0} (w : Setting M) (s : State M) → Sound w s → (rs : List (Event M)) (s' : State M) → Act w s rs s' → AllByRecursion (Says w s s') rs
 act_says w s h rs s' (steps v a) = step_says w s h v rs s' a
 act_says w s h rs s' (posts p m _ _ f e) = rw f (tt, tt)
 act_says w s h rs s' (clocks k _ _ f e) = rw f (tt, tt)

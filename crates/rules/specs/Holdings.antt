@@ -1,6 +1,6 @@
 -- What holds of the messages of every run: none is lost or made up, and the oldest comes out first.
 use Rattle.std.specs.Prelude.{◌≡◌, ℕ, ◌≤◌, true, false, cond, List, [], ◌∷◌, ◌++◌, length, Some, ◌==◌, ◌≢◌}
-use Rattle.std.specs.List.{AllByRecursion as All}
+use Rattle.std.specs.List.{AllByRecursion}
 use Rattle.grammar.specs.declared.words.PortKind.{PortKind}
 use Rattle.rows.specs.Rows.{port_kind}
 use Rattle.trace.specs.declared.record.Event.{Event}
@@ -74,8 +74,8 @@ taken (goes_on rs r a e) p = taken r p ++ act_takes a p
 -- What was given to a port of a kind that loses was taken, oldest first, or is still held; a kind that keeps still holds all of it, and each take got the oldest; a kind that cannot hold was given nothing, and each take got a blank.
 pub record PortTold {M : Type 0} {w : Setting M} {tr : List (Record M)} {s : State M} (r : Run w tr s) (limit : ℕ) (p : ℕ) (K : Kind) (held : List M) : Type 0 where
   pub loses : K.holds ≡ true → K.keeps ≡ false → given r p ≡ taken r p ++ held
-  pub keeps : K.holds ≡ true → K.keeps ≡ true → (given r p ≡ held) × All (λ m. oldest held ≡ Some m) (taken r p)
-  pub none : K.holds ≡ false → (given r p ≡ []) × (held ≡ []) × All (λ m. m ≡ w.messages.blank) (taken r p)
+  pub keeps : K.holds ≡ true → K.keeps ≡ true → (given r p ≡ held) × AllByRecursion (λ m. oldest held ≡ Some m) (taken r p)
+  pub none : K.holds ≡ false → (given r p ≡ []) × (held ≡ []) × AllByRecursion (λ m. m ≡ w.messages.blank) (taken r p)
   pub few : length held ≤ limit
 
 abbrev pub HeldLaw : Type 0 → Type 0

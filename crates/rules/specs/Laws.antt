@@ -1,7 +1,7 @@
 -- What holds of every run, whatever the script, the messages and the base event kinds.
 use Rattle.std.specs.Prelude.{◌≡◌, ℕ, suc, ◌<◌, ◌≤◌, Bool, true, false, ◌≢◌, ◌⊎◌, ◌↔◌, List, [], ◌∷◌, ◌++◌, map, length, Some, None, filter, nat_eq}
 use mathlib.Core.List.{Memᴰ}
-use Rattle.std.specs.List.{range_with_len, AllByRecursion as All}
+use Rattle.std.specs.List.{range_with_len, AllByRecursion}
 use Rattle.rows.specs.Rows.{port_kind}
 use Rattle.trace.specs.declared.record.Event.{Event}
 use Rattle.trace.specs.declared.record.Event.TheVariants as line
@@ -207,12 +207,12 @@ FrameLaw M = (w : Setting M) (tr : List (Record M)) (s : State M) → Run w tr s
 -- each is smaller than all after it
 abbrev pub Rising : List ℕ → Type 0
 Rising [] = Unit {0}
-Rising (x ∷ xs) = All (λ y. x < y) xs × Rising xs
+Rising (x ∷ xs) = AllByRecursion (λ y. x < y) xs × Rising xs
 
 -- none is larger than any after it
 abbrev pub NeverFalling : List ℕ → Type 0
 NeverFalling [] = Unit {0}
-NeverFalling (x ∷ xs) = All (λ y. x ≤ y) xs × NeverFalling xs
+NeverFalling (x ∷ xs) = AllByRecursion (λ y. x ≤ y) xs × NeverFalling xs
 
 -- the task that a record starts, and the sync that one begins
 abbrev pub starts_of : {M : Type 0} → Event M → List ℕ
@@ -245,9 +245,9 @@ pub record Counted {M : Type 0} (tr : List (Record M)) (s : State M) : Type 0 wh
   pub tasks : each_of starts_of (happenings tr) ≡ range_with_len 1 s.last_task
   pub syncs : each_of syncs_of (happenings tr) ≡ range_with_len 1 s.last_sync
   pub live : Rising (map (λ t. t.number) s.tasks)
-  pub started : All (λ t. (1 ≤ t.number) × (t.number ≤ s.last_task)) s.tasks
+  pub started : AllByRecursion (λ t. (1 ≤ t.number) × (t.number ≤ s.last_task)) s.tasks
   pub times : NeverFalling (map (λ r. r.ms) tr)
-  pub past : All (λ r. r.ms ≤ s.clock) tr
+  pub past : AllByRecursion (λ r. r.ms ≤ s.clock) tr
   pub clock : s.clock < 4294967296
   pub told : (c : BaseKind) → (s.means c).clock ≡ s.clock
 

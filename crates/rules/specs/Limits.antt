@@ -1,6 +1,6 @@
 -- The limits of ports, syncs and bodies.
 use Rattle.std.specs.Prelude.{ℕ, suc, ◌+◌, ◌≤◌, List, length, ℤ}
-use Rattle.std.specs.List.{AllByRecursion as All}
+use Rattle.std.specs.List.{AllByRecursion}
 use Rattle.grammar.specs.Grammar as g
 use Rattle.passes.specs.Limits.{IsOverLimit}
 use Rattle.passes.specs.Ranges.{last_port}
@@ -59,7 +59,7 @@ InstrLimited g.emit = Unit {0}
 InstrLimited g.again = Unit {0}
 
 abbrev pub Limited : {M : Type 0} → Script M → Type 0
-Limited s = All (λ b. (length b.instrs ≤ most_instrs) × All InstrLimited b.instrs) (bodies s)
+Limited s = AllByRecursion (λ b. (length b.instrs ≤ most_instrs) × AllByRecursion InstrLimited b.instrs) (bodies s)
 
 -- A script in whose tokens nothing is over its limit keeps its limits.
 abbrev pub LimitsLaw : Type 0 → Type 0

@@ -4,7 +4,7 @@ use Rattle.std.proofs.Common.{◌≡◌, ℕ, suc, ◌+◌, ◌%◌, ◌^◌, �
 use native.Mathlib.Bridge.{le_prop}
 use lib.Signed.{mag}
 use Rattle.std.specs.Fmt.{signed_decimal}
-use Rattle.std.specs.List.{AllByRecursion as All}
+use Rattle.std.specs.List.{AllByRecursion}
 use Rattle.std.proofs.lemmas.Fmt.{decimal_digit, decimal_by_steps, first_decimal, decimal_injective}
 use Rattle.std.proofs.ByRecursion.{All-push, All-weaker}
 use Rattle.std.proofs.lemmas.Bool.{cases_lt, ne_eqb}
@@ -38,7 +38,7 @@ natural (b ∷ bs) h d = (omega arith, d.0.1, d.1)
 decimal_digits : (n : ℕ) → n < 2 ^ 64 → Digits (decimal n)
 decimal_digits n f =
     let P : ℕ → Type 0 = λ b. (48 ≤ b) × (b ≤ 57) in
-    decimal_by_steps (λ _ ds. All P ds)
+    decimal_by_steps (λ _ ds. AllByRecursion P ds)
     (λ m lt. ((omega arith, omega arith), tt))
     (λ m ds ge ih. All-push P ds (48 + m % 10) ih (omega arith, omega arith))
     n f
@@ -146,7 +146,7 @@ module _ {M : Type 0} where
 abbrev Bounds : {A B : Type 0} → (B → A) → (B → List Part) → (A → List Part) → A → Type 0
 Bounds {A} {B} f q p a = (b : B) × (f b ≡ a) × (q b ≡ p a)
 
-bound_each : {A B : Type 0} (W : A → Type 0) (f : B → A) (q : B → List Part) (p : A → List Part) → ((a : A) → W a → Bounds f q p a) → (xs : List A) → All W xs → Bounds (map f) (each q) (each p) xs
+bound_each : {A B : Type 0} (W : A → Type 0) (f : B → A) (q : B → List Part) (p : A → List Part) → ((a : A) → W a → Bounds f q p a) → (xs : List A) → AllByRecursion W xs → Bounds (map f) (each q) (each p) xs
 bound_each W f q p one [] h = ([], refl, refl)
 bound_each W f q p one (a ∷ xs) h =
     let x = one a h.0 in

@@ -1,6 +1,6 @@
 -- The tokens of a text, one after the other.
 use Rattle.std.proofs.Common.{◌≡◌, ℕ, suc, ◌+◌, false, cond, List, [], ◌∷◌, ◌++◌, length, take, drop, refl, ap, ◌∙◌, one-add, arith}
-use Rattle.std.specs.List.{prefix_len, AllByRecursion as All}
+use Rattle.std.specs.List.{prefix_len, AllByRecursion}
 use Rattle.tokens.specs.Tokens.{Placed, at, opening, closing, atom, Class, parts, opens, closes, runs, class, next_class, with_byte, with_run, tokens_from, Run}
 use Rattle.tokens.specs.Scanning.{is_runs, in_run}
 
@@ -20,7 +20,7 @@ last_byte i b opens ts stop = refl
 last_byte i b closes ts stop = refl
 last_byte i b runs ts stop = absurd (stop refl)
 
-from_byte : (i b : ℕ) (w rest : List ℕ) → All (λ x. class x ≡ runs) (b ∷ w) → (next_class rest ≡ runs → ⊥) → tokens_from i (b ∷ (w ++ rest)) ≡ at i (atom (b ∷ w)) ∷ tokens_from (i + suc (length w)) rest
+from_byte : (i b : ℕ) (w rest : List ℕ) → AllByRecursion (λ x. class x ≡ runs) (b ∷ w) → (next_class rest ≡ runs → ⊥) → tokens_from i (b ∷ (w ++ rest)) ≡ at i (atom (b ∷ w)) ∷ tokens_from (i + suc (length w)) rest
 from_byte i b [] rest all stop =
     ap (λ c. with_byte i b c (next_class rest) (tokens_from (i + 1) rest)) all.0 ∙ last_byte i b (next_class rest) (tokens_from (i + 1) rest) stop
 from_byte i b (x ∷ w) rest all stop =
@@ -36,11 +36,11 @@ tokens_run i [] rest run stop = absurd (omega (arith, run.some))
 tokens_run i (b ∷ w) rest run stop = from_byte i b w rest run.bytes stop
 
 -- the front of a text that is in a run
-pub run_bytes : (bs : List ℕ) → All (λ b. class b ≡ runs) (take (prefix_len in_run bs) bs)
+pub run_bytes : (bs : List ℕ) → AllByRecursion (λ b. class b ≡ runs) (take (prefix_len in_run bs) bs)
 run_bytes [] = tt
 run_bytes (b ∷ bs) = by (class b) refl (run_bytes bs)
   where
-    by : (c : Class) → class b ≡ c → All (λ x. class x ≡ runs) (take (prefix_len in_run bs) bs) → All (λ x. class x ≡ runs) (take (cond (is_runs c) (1 + prefix_len in_run bs) 0) (b ∷ bs))
+    by : (c : Class) → class b ≡ c → AllByRecursion (λ x. class x ≡ runs) (take (prefix_len in_run bs) bs) → AllByRecursion (λ x. class x ≡ runs) (take (cond (is_runs c) (1 + prefix_len in_run bs) 0) (b ∷ bs))
     by parts e all = tt
     by opens e all = tt
     by closes e all = tt

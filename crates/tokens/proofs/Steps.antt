@@ -1,6 +1,6 @@
 -- One turn over a text.
 use Rattle.std.proofs.Common.{◌≡◌, ℕ, ◌+◌, ◌-◌, ◌<◌, ◌≤◌, List, [], ◌∷◌, ◌++◌, map, length, get_or, take, drop, sym, ap, ◌∙◌, subst, append_assoc, append-nil, arith}
-use Rattle.std.specs.List.{prefix_len, AllByRecursion as All}
+use Rattle.std.specs.List.{prefix_len, AllByRecursion}
 use Rattle.std.proofs.ByRecursion.{All-push}
 use Rattle.std.proofs.lemmas.List.{at_drop_more, at_drop_all, map_push, take-append-drop, drop-drop, length-take-le, length-drop}
 use Rattle.std.proofs.lemmas.List.Sums.{prefix_len-drop_yes, prefix_len-le-length}
@@ -15,7 +15,7 @@ use Rattle.tokens.proofs.Runs.{tokens_parted, tokens_opened, tokens_closed, toke
 -- the tokens before i are found
 pub record Sofar (text : List ℕ) (i : ℕ) (ks : List Token) : Type 0 where
   pub split : map placed ks ++ tokens_from i (drop i text) ≡ tokens text
-  pub classified : All Classified ks
+  pub classified : AllByRecursion Classified ks
 
 pub done : (text : List ℕ) (i : ℕ) (ks : List Token) → length text ≤ i → Sofar text i ks → Tokenised text ks
 done text i ks h s = record {

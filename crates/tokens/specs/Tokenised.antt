@@ -1,6 +1,6 @@
 -- What the code finds in a text.
 use Rattle.std.specs.Prelude.{◌≡◌, ℕ, List, [], map}
-use Rattle.std.specs.List.{AllByRecursion as All}
+use Rattle.std.specs.List.{AllByRecursion}
 use Rattle.tokens.specs.declared.token.Token.{Token}
 use Rattle.tokens.specs.declared.token.Token.TheVariants.{Open, Close, Integer, Word}
 use Rattle.tokens.specs.Tokens.{tokens}
@@ -9,7 +9,7 @@ use Rattle.tokens.specs.Reading.{placed, Classified}
 -- these are the tokens of the text, each integer and word told apart
 pub record Tokenised (text : List ℕ) (ks : List Token) : Type 0 where
   pub tokens_are : map placed ks ≡ tokens text
-  pub classified : All Classified ks
+  pub classified : AllByRecursion Classified ks
 
 -- the bytes of an integer or a word, none for a bracket
 abbrev pub token_bytes : Token → List ℕ

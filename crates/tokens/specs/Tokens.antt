@@ -1,6 +1,6 @@
 -- The tokens of a text, each with its place.
 use Rattle.std.specs.Prelude.{◌≡◌, ℕ, ◌+◌, ◌≤◌, Bool, cond, ◌||◌, ◌⊎◌, List, [], ◌∷◌, map, length, ◌==◌, slice_index_or}
-use Rattle.std.specs.List.{AllByRecursion as All}
+use Rattle.std.specs.List.{AllByRecursion}
 
 -- space, tab, line feed and carriage return
 abbrev pub is_separator : ℕ → Bool
@@ -67,11 +67,11 @@ place_of ts end k = slice_index_or (map place ts) k end
 -- a run of at least one byte, none of them a separator or a bracket
 pub record Run (bs : List ℕ) : Type 0 where
   pub some : 1 ≤ length bs
-  pub bytes : All (λ b. class b ≡ runs) bs
+  pub bytes : AllByRecursion (λ b. class b ≡ runs) bs
 
 -- an integer: 0, or an optional minus and digits that begin with 1 to 9
 abbrev pub Digits : List ℕ → Type 0
-Digits bs = All (λ b. (48 ≤ b) × (b ≤ 57)) bs
+Digits bs = AllByRecursion (λ b. (48 ≤ b) × (b ≤ 57)) bs
 
 abbrev pub Natural : List ℕ → Type 0
 Natural [] = ⊥

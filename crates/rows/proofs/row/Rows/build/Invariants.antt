@@ -1,5 +1,5 @@
 use Rattle.std.proofs.Common.{◌≡◌, List, ◌++◌, map}
-use Rattle.std.specs.List.{AllByRecursion as All}
+use Rattle.std.specs.List.{AllByRecursion}
 use Rattle.rows.specs.Tables.{table}
 use Rattle.rows.proofs.Building.{SoFar}
 use Rattle.rows.proofs.Pairing.{pairs_rest}
