@@ -100,11 +100,11 @@ module _ (ts : List Token) (k : ℕ) (us : List Use) (s : List Item) (h : SoFar 
   over : (d : Token) → k < length ts → Viable (take (k + 1) (map lexeme ts)) → (u : Use) × (s₁ : List Item) × (step (reverse s) (lexeme (get_or ts k d)) ≡ Some (u, s₁)) × Spelled u (lexeme (get_or ts k d))
   over d lt v =
       let l = lexeme (get_or ts k d) in
-      let read-so-far = take k (map lexeme ts) in
+      let read_so_far = take k (map lexeme ts) in
       let x = v.whole.raw in
-      let e : part_lexemes (raw_parts x) ≡ part_lexemes (with_uses us read-so-far) ++ (l ∷ v.rest) = v.whole.written ∙ ap (λ y. y ++ v.rest) (next_lexeme d lt) ∙ append_assoc read-so-far (l ∷ []) v.rest ∙ ap (λ y. y ++ (l ∷ v.rest)) (sym (lexemes_of us read-so-far (long (omega arith)))) in
+      let e : part_lexemes (raw_parts x) ≡ part_lexemes (with_uses us read_so_far) ++ (l ∷ v.rest) = v.whole.written ∙ ap (λ y. y ++ v.rest) (next_lexeme d lt) ∙ append_assoc read_so_far (l ∷ []) v.rest ∙ ap (λ y. y ++ (l ∷ v.rest)) (sym (lexemes_of us read_so_far (long (omega arith)))) in
       let left = follow h.ran (script_taken x) (l ∷ v.rest) e in
-      next_part left.ran l v.rest left.lexemes (all_last Fit (with_uses us read-so-far) left.parts (subst (AllByRecursion Fit) left.joined v.whole.spelled_well.parts))
+      next_part left.ran l v.rest left.lexemes (all_last Fit (with_uses us read_so_far) left.parts (subst (AllByRecursion Fit) left.joined v.whole.spelled_well.parts))
 
   pub stops : (d : Token) (o : Option Use) (s₁ : List Item) → k < length ts → Stepped s (get_or ts k d) o s₁ → o ≡ None → AllByRecursion Classified ts → MisfitAt (map lexeme ts) k
   stops d o s₁ lt w e c =

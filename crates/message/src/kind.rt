@@ -36,7 +36,7 @@ pub trait Message: Literal {
     ghost plus: { Self → ℤ → Self };
 
     // The sign that a guard sees.
-    ghost signOf: { Self → Sign };
+    ghost message_sign: { Self → Sign };
 
     fn blank() -> Self
         ensures { result ≡ initial };
@@ -45,5 +45,5 @@ pub trait Message: Literal {
         ensures { result ≡ plus self k };
 
     fn sign(self) -> Sign
-        ensures { result ≡ signOf self };
+        ensures { result ≡ message_sign self };
 }

@@ -67,7 +67,7 @@ impl Message for Ticket {
 
     ghost plus = { ticket_plus };
 
-    ghost signOf = { ticket_sign };
+    ghost message_sign = { ticket_sign };
 
     fn blank() -> Self {
         Ticket {

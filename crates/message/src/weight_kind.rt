@@ -89,7 +89,7 @@ impl Message for Weight {
 
     ghost plus = { weight_plus };
 
-    ghost signOf = { λ w. sign_of w.value };
+    ghost message_sign = { λ w. sign_of w.value };
 
     fn blank() -> Self {
         Weight { value: 0 }

@@ -1,4 +1,5 @@
 #![tactic(auto)]
+
 // Example messages: what is read, computed and written.
 #[cfg(test)]
 mod messages {

@@ -3,7 +3,7 @@ ghost use Rattle.tokens.specs.Places.{Nowhere, Smallest};
 ghost use Rattle.tokens.specs.Reading.{lexeme};
 ghost use Rattle.passes.specs.Parts.{parts_of, bytes_in};
 ghost use Rattle.passes.specs.Ranges.{last_port, last_body, IsOutOfRange};
-ghost use Rattle.passes.specs.Names.{port as a-port, body as a_Body, declares, names, Misnamed};
+ghost use Rattle.passes.specs.Names.{port as a_port, body as a_body, declares, names, Misnamed};
 ghost use Rattle.passes.specs.Declarations.{Small, ReadAs, Mentions, holds, Empty, Added, Declaring, Lacking, KnowsAll};
 
 use crate::parts::bytes_of;
@@ -79,13 +79,13 @@ impl Declared {
 }
 
 fn port(bytes: &[u8]) -> Option<Name>
-    ensures { ReadAs a-port last_port bytes.now result }
+    ensures { ReadAs a_port last_port bytes.now result }
 {
     Some(Name::Port(number_upto(bytes, LAST_PORT)?))
 }
 
 fn body(bytes: &[u8]) -> Option<Name>
-    ensures { ReadAs a_Body last_body bytes.now result }
+    ensures { ReadAs a_body last_body bytes.now result }
 {
     Some(Name::Body(number_upto(bytes, LAST_BODY)?))
 }

@@ -1,4 +1,5 @@
 #![tactic(auto)]
+
 // Example lists, and the places that the delivered policies name in them.
 #[cfg(test)]
 mod policies {

@@ -1,4 +1,5 @@
 #![tactic(auto)]
+
 // Reads lines of a trace over weights, and prints the kind of each, or the number of the refusal.
 use message::weight::Weight;
 use std::io;

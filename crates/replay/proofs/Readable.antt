@@ -18,7 +18,7 @@ use Rattle.replay.specs.declared.fault.CallFault.TheVariants as fault
 use Rattle.replay.specs.Policies.{Policy}
 use Rattle.replay.specs.Replays.{Call, post, clock, turn, Answer, wrote, Replay, begin_replay, last_start, Accepts, lines_of, Serves, refuses, posts, clocks, turns, looks}
 use Rattle.replay.specs.Laws.{ReadableLaw, FitsPage}
-use Rattle.replay.proofs.Tracing.{Traced, begins_traced, Goes_on, serves_goes_on, serves_traced, replays_keep}
+use Rattle.replay.proofs.Tracing.{Traced, begins_traced, GoesOn, serves_goes_on, serves_traced, replays_keep}
 
 -- records numbered after `n` are proper, where their numbers are small
 proper_numbered : {M : Type 0} (n k : ℕ) (rs : List (Event M)) → n + length rs ≤ largest → k < 4294967296 → AllByRecursion (Small largest) rs → AllByRecursion Proper (numbered n k rs)
@@ -68,7 +68,7 @@ module _ {M P : Type 0} (w : Setting M) (k : Policy P) (ρ : Replay M P) (c : Ca
     pub serves_adds : Traced w ρ → Serves w k ρ c a ρ' → Adds ρ ρ'
     serves_adds r s = go (serves_goes_on w k ρ c a ρ' s) (serves_writes s)
       where
-        go : Goes_on w ρ ρ' → SameOrWrites → Adds ρ ρ'
+        go : GoesOn w ρ ρ' → SameOrWrites → Adds ρ ρ'
         go (inl e) x = adds_none ρ ρ' e
         go (inr y) (inl x) = adds_none ρ ρ' x.0
         go (inr (rs, x, e)) (inr y) =

@@ -20,21 +20,21 @@ pub begins_traced : {M P : Type 0} (w : Setting M) (p : P) → Traced w (begin_r
 begins_traced w p = begins refl refl
 
 -- Nothing changed, or one thing was done that the rules allow, and its records were written.
-abbrev pub Goes_on : {M P : Type 0} → Setting M → Replay M P → Replay M P → Type 0
-Goes_on {M} w ρ ρ' = (ρ' ≡ ρ)
+abbrev pub GoesOn : {M P : Type 0} → Setting M → Replay M P → Replay M P → Type 0
+GoesOn {M} w ρ ρ' = (ρ' ≡ ρ)
     ⊎ ((rs : List (Event M)) × rules.Act w ρ.state rs ρ'.state × (ρ'.trace ≡ ρ.trace ++ numbered (length ρ.trace) ρ'.state.clock rs))
 
 module _ {M P : Type 0} (w : Setting M) (k : Policy P) where
-  pub serves_goes_on : (ρ : Replay M P) (c : Call) (a : Answer) (ρ' : Replay M P) → Serves w k ρ c a ρ' → Goes_on w ρ ρ'
+  pub serves_goes_on : (ρ : Replay M P) (c : Call) (a : Answer) (ρ' : Replay M P) → Serves w k ρ c a ρ' → GoesOn w ρ ρ'
   serves_goes_on ρ c a ρ' (refuses f _ _ e) = inl e
   serves_goes_on ρ c a ρ' (posts cells page p bs h ok m _ _ e) =
       let accepts : Accepts w ρ (post cells page p bs) = subst (Accepts w ρ) h ok in
-      subst (Goes_on w ρ) (sym e) (inr (_, rules.posts p m ((Dec.not-not (is_mailbox _)).0 (accepts (fault.Run NotMailbox))) ((Dec.not-not (is_alone _)).0 (accepts (fault.Run NoRoom))) refl refl, refl))
+      subst (GoesOn w ρ) (sym e) (inr (_, rules.posts p m ((Dec.not-not (is_mailbox _)).0 (accepts (fault.Run NotMailbox))) ((Dec.not-not (is_alone _)).0 (accepts (fault.Run NoRoom))) refl refl, refl))
   serves_goes_on ρ c a ρ' (clocks page ms h ok fits _ e) =
       let accepts : Accepts w ρ (clock page ms) = subst (Accepts w ρ) h ok in
       let on : ρ.state.clock ≤ ms = omega (arith, accepts (fault.Run ClockBack)) in
-      subst (Goes_on w ρ) (sym e) (inr (_, rules.clocks ms on fits refl refl, refl))
-  serves_goes_on ρ c a ρ' (turns cells page _ _ v p' _ rs s' step _ e) = subst (Goes_on w ρ) (sym e) (inr (rs, rules.steps v step, refl))
+      subst (GoesOn w ρ) (sym e) (inr (_, rules.clocks ms on fits refl refl, refl))
+  serves_goes_on ρ c a ρ' (turns cells page _ _ v p' _ rs s' step _ e) = subst (GoesOn w ρ) (sym e) (inr (rs, rules.steps v step, refl))
   serves_goes_on ρ c a ρ' (looks _ _ e) = inl e
 
   pub serves_traced : (ρ : Replay M P) (c : Call) (a : Answer) (ρ' : Replay M P) → Traced w ρ → Serves w k ρ c a ρ' → Traced w ρ'

@@ -40,7 +40,7 @@ abbrev Clear : {M : Type 0} → (M → List ℕ) → Part → Type 0
 Clear literal p = ((Ranged p.purpose (bytes p) → ⊥) → ⊥) × ((MessageFor literal p.purpose (bytes p) → ⊥) → ⊥)
 
 all_clear : {M : Type 0} (literal : M → List ℕ) (ps : List Part) → Nowhere (IsOutOfRange ps) → Nowhere (NoMessage literal ps) → AllByRecursion (Clear literal) ps
-all_clear literal ps in-range messages = All-from_get_or (Clear literal) ps _ (λ i h. (in-range i, messages i))
+all_clear literal ps in_range messages = All-from_get_or (Clear literal) ps _ (λ i h. (in_range i, messages i))
 
 all_middle : {X : Type 0} (P : X → Type 0) (xs : List X) (y : X) (ys : List X) → AllByRecursion P (xs ++ (y ∷ ys)) → P y
 all_middle P [] y ys h = h.0
@@ -62,12 +62,12 @@ so_far_none {M} literal ks us left t all e = record {
 -- a part that is clear adds its entry
 added : {M : Type 0} (literal : M → List ℕ) (p : Part) (t u : Table M) → Clear literal p → PartAdded literal p.purpose (bytes p) t u → Adds literal (p ∷ []) t u
 added {M} literal p t u clear (inl (e, of, is)) = let P : Table M → Type 0 = λ v. Adds literal (p ∷ []) t v in subst P (sym is) (part_adds literal p e of (none literal))
-added literal p t u clear (inr (no-entry, is)) =
-    absurd (clear.0 (λ ranged. clear.1 (λ message. let e = entry_from literal p.purpose (bytes p) ranged message in no-entry e.0 e.1)))
+added literal p t u clear (inr (no_entry, is)) =
+    absurd (clear.0 (λ ranged. clear.1 (λ message. let e = entry_from literal p.purpose (bytes p) ranged message in no_entry e.0 e.1)))
 
 pub so_far_more : {M : Type 0} (literal : M → List ℕ) (ks : List Token) (us : List Use) (left rest : List (Token × Use)) (k : Token) (u : Use) (t v : Table M)
     → left ≡ (k, u) ∷ rest → PartAdded literal u (bytes_in (lexeme k)) t v → SoFar literal ks us left t → SoFar literal ks us rest v
-so_far_more {M} literal ks us left rest k u t v e adds-part h =
+so_far_more {M} literal ks us left rest k u t v e adds_part h =
     let p : Part = part u (lexeme k) in
     let here : h.before ++ (p ∷ pairs_parts rest) ≡ with_uses us (map lexeme ks) = ap (λ l. h.before ++ pairs_parts l) (sym e) ∙ h.all in
     record {
@@ -75,7 +75,7 @@ so_far_more {M} literal ks us left rest k u t v e adds-part h =
       all = append_assoc h.before (p ∷ []) (pairs_parts rest) ∙ here;
       adds = λ clear.
           let P : List Part → Type 0 = λ ps. AllByRecursion (Clear literal) ps in
-          adds_append literal (h.adds clear) (added literal p t v (all_middle (Clear literal) h.before p (pairs_parts rest) (subst P (sym here) clear)) adds-part);
+          adds_append literal (h.adds clear) (added literal p t v (all_middle (Clear literal) h.before p (pairs_parts rest) (subst P (sym here) clear)) adds_part);
     }
 
 -- a table that all parts of a script have made holds the script
@@ -90,8 +90,8 @@ script_built {M} literal one ps r made raw e =
 
 pub so_far_all : {M : Type 0} (literal : M → List ℕ) → ((a b : M) → literal a ≡ literal b → a ≡ b) → (ks : List Token) (us : List Use) (left : List (Token × Use)) (r : Rows M)
     → left ≡ [] → SoFar literal ks us left (table r) → Builds literal (with_uses us (map lexeme ks)) r
-so_far_all {M} literal one ks us left r e h raw written in-range messages =
+so_far_all {M} literal one ks us left r e h raw written in_range messages =
     let ps : List Part = with_uses us (map lexeme ks) in
     let whole : h.before ≡ ps = sym (append-nil h.before) ∙ ap (λ l. h.before ++ pairs_parts l) (sym e) ∙ h.all in
     let P : List Part → Type 0 = λ qs. Adds literal qs blank_table (table r) in
-    script_built literal one ps r (subst P whole (h.adds (all_clear literal ps in-range messages))) raw written
+    script_built literal one ps r (subst P whole (h.adds (all_clear literal ps in_range messages))) raw written

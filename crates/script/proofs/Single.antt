@@ -223,12 +223,12 @@ same_parts ps qs e u v =
     sym (parts_of ps) ∙ ap₂ with_uses same e ∙ parts_of qs
 
 pub one_script : {M : Type 0} (literal : M → List ℕ) → ((a b : M) → literal a ≡ literal b → a ≡ b) → ((a : M) → Plain (literal a)) → OneScript literal
-one_script literal one plain text t u of-t of-u =
+one_script literal one plain text t u of_t of_u =
     let spell = bounded literal in
     let proper = bounded_proper literal plain in
-    let x = bound_script literal t of-t.within in
-    let y = bound_script literal u of-u.within in
+    let x = bound_script literal t of_t.within in
+    let y = bound_script literal u of_u.within in
     let tokens : part_lexemes (g.script spell x.0) ≡ part_lexemes (g.script spell y.0) =
-    ap part_lexemes x.2 ∙ of-t.written ∙ sym (ap part_lexemes y.2 ∙ of-u.written) in
+    ap part_lexemes x.2 ∙ of_t.written ∙ sym (ap part_lexemes y.2 ∙ of_u.written) in
     let same = same_parts (g.script spell x.0) (g.script spell y.0) tokens (image_uses spell proper x.0) (image_uses spell proper y.0) in
     sym x.1 ∙ ap bare_script (written_once spell (bounded_injective literal one) x.0 y.0 same) ∙ y.1

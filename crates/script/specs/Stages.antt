@@ -6,7 +6,7 @@ use Rattle.tokens.specs.Tokens.{lexemes}
 use Rattle.tokens.specs.Tokenised.{Tokenised}
 use Rattle.grammar.specs.declared.words.Use.{Use}
 use Rattle.grammar.specs.Forms.{Uses}
-use Rattle.grammar.specs.Forms.{Misfit as Misfit-in}
+use Rattle.grammar.specs.Forms.{Misfit as IsMisfit}
 use Rattle.std.specs.declared.alloc.Global.{Global}
 use Rattle.message.specs.declared.literal.LiteralFault.{LiteralFault}
 use Rattle.script.specs.declared.fault.Fault.{Fault}
@@ -44,4 +44,4 @@ LiteralStage literal text P (Err f) = (at : ℕ) × (inner : LiteralFault) × (f
 -- the stage that finds the uses; want of memory is no fault of the text
 abbrev pub FormStage : List ℕ → Result (Vec Use Global) Fault → Type 0
 FormStage text (Ok us) = Uses (lexemes text) (vec_items us)
-FormStage text (Err f) = (f ≡ Memory) ⊎ ((at : ℕ) × (f ≡ Form (Misfit at)) × First (Misfit-in text) at)
+FormStage text (Err f) = (f ≡ Memory) ⊎ ((at : ℕ) × (f ≡ Form (Misfit at)) × First (IsMisfit text) at)

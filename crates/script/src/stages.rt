@@ -4,7 +4,7 @@ ghost use Rattle.tokens.specs.Reading.{placed};
 ghost use Rattle.passes.specs.Ranges.{IsOutOfRange};
 ghost use Rattle.tokens.specs.Places.{Nowhere};
 ghost use Rattle.tokens.specs.Tokenised.{Tokenised};
-ghost use Rattle.passes.specs.Names.{Misnamed as Misnamed-at};
+ghost use Rattle.passes.specs.Names.{Misnamed as IsMisnamed};
 ghost use Rattle.passes.specs.Limits.{IsOverLimit};
 ghost use Rattle.passes.specs.Messages.{NoMessage};
 ghost use Rattle.script.specs.declared.fault.FormFault.TheVariants.{OutOfRange};
@@ -61,7 +61,7 @@ pub fn check_ranges(text: &[u8], tokens: &[Token<'_>], uses: &[Use]) -> Result<(
 }
 
 pub fn check_names(text: &[u8], tokens: &[Token<'_>], uses: &[Use]) -> Result<(), NamesFault>
-    ensures { Formed text.now tokens.now uses.now → Nowhere (IsInScript IsOutOfRange text.now) → Stage Misnamed (IsInScript Misnamed-at text.now) result }
+    ensures { Formed text.now tokens.now uses.now → Nowhere (IsInScript IsOutOfRange text.now) → Stage Misnamed (IsInScript IsMisnamed text.now) result }
 {
     match first_misnamed(tokens, uses) {
         Some(token) => Err(NamesFault::Misnamed {

@@ -1,4 +1,5 @@
 #![tactic(auto)]
+
 // Example lines: what is written of records, and what is read.
 #[cfg(test)]
 mod lines {
