@@ -1,5 +1,5 @@
 -- The lines of a text. A line feed ends a line, and is none of its bytes.
-use Rattle.std.specs.Prelude.{◌≡◌, ℕ, ◌+◌, ◌-◌, ◌<◌, ◌≤◌, ◌⊎◌, List, length, count_by, ◌≢◌, nat_eq, slice_index}
+use Rattle.std.specs.Prelude.{◌≡◌, ℕ, ◌-◌, ◌<◌, ◌≤◌, ◌⊎◌, List, length, count_by, ◌≢◌, nat_eq, slice_index}
 
 abbrev pub line_feeds : List ℕ → ℕ
 line_feeds s = count_by (λ b. nat_eq b 10) s

@@ -1,13 +1,12 @@
 -- Literals of two parts: how far bytes agree with one, from how far they agree with its parts.
 use Rattle.std.specs.Prelude.{◌≡◌, ℕ, suc, ◌+◌, ◌-◌, ◌<◌, ◌≤◌, List, [], ◌∷◌, ◌++◌, length, take, drop, Some, None, Option, ◌≢◌, slice_index, refl}
 use Rattle.std.proofs.Common.{sym, ap, ap₂, subst, ◌∙◌, append_assoc, inl, inr, arith, length-append}
-use Rattle.std.specs.List.{AllByRecursion}
 use Rattle.std.proofs.ByRecursion.{All-append}
 use Rattle.std.proofs.lemmas.List.{take-append-drop, drop_more, take_rest, length-take-le, append-nil, take-take, take_at, get_or_at, get_or-take}
 use Rattle.std.proofs.lemmas.Bool.{cases_lt}
 use Rattle.message.specs.declared.literal.Lead.{Lead}
 use Rattle.message.specs.declared.joined.Joined.{Joined}
-use Rattle.message.specs.Literals.{Begins, Longest, Found, Leads, Plain, PlainByte}
+use Rattle.message.specs.Literals.{Longest, Found, Leads, Plain, PlainByte}
 use Rattle.message.specs.Joins.{joined, Free}
 use Rattle.message.specs.Fronts.{begins_shorter, longest_by}
 

@@ -1,5 +1,5 @@
 -- Literals of two parts with a byte between them.
-use Rattle.std.specs.Prelude.{◌≡◌, ℕ, List, ◌∷◌, ◌++◌, ◌≢◌}
+use Rattle.std.specs.Prelude.{ℕ, List, ◌∷◌, ◌++◌, ◌≢◌}
 use Rattle.message.specs.declared.joined.Joined.{Joined}
 
 abbrev pub joined : {A B : Type 0} → (A → List ℕ) → ℕ → (B → List ℕ) → Joined A B → List ℕ

@@ -1,5 +1,5 @@
 -- The sign of a number.
-use Rattle.std.specs.Prelude.{ℕ, zero, suc, ℤ, pos, negsuc}
+use Rattle.std.specs.Prelude.{zero, suc, ℤ, pos, negsuc}
 use Rattle.message.specs.declared.kind.Sign.{Sign}
 use Rattle.message.specs.declared.kind.Sign.TheVariants.{Neg, Zero, Pos}
 

@@ -1,7 +1,6 @@
 -- Tickets are two weights with a slash between them.
-use Rattle.std.specs.Prelude.{◌≡◌, ℕ, ◌≤◌, List, ◌∷◌, ◌++◌, length, take, Some, None, Option, ◌≢◌, refl}
-use Rattle.std.proofs.Common.{sym, ap, ◌∙◌, arith, length-append}
-use Rattle.std.proofs.lemmas.Fmt.{signed_decimal_injective}
+use Rattle.std.specs.Prelude.{◌≡◌, ℕ, ◌≤◌, List, ◌∷◌, length, take, Some, None, Option, ◌≢◌}
+use Rattle.std.proofs.Common.{ap, arith, length-append}
 use Rattle.message.specs.declared.weight.Weight.{Weight}
 use Rattle.message.specs.declared.ticket.Ticket.{Ticket}
 use Rattle.message.specs.declared.literal.Lead.{Lead}

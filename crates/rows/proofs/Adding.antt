@@ -1,5 +1,5 @@
 -- What the parts of a script add to a table, one after another.
-use Rattle.std.proofs.Common.{◌≡◌, ℕ, ◌≤◌, List, [], ◌∷◌, ◌++◌, length, decimal, sym, refl, ap, ◌∙◌, subst, ap₂, append_assoc, append-nil}
+use Rattle.std.proofs.Common.{◌≡◌, ℕ, ◌≤◌, List, [], ◌∷◌, ◌++◌, length, decimal, sym, refl, ap, subst, ap₂, append_assoc, append-nil}
 use Rattle.std.specs.Fmt.{signed_decimal}
 use Rattle.std.specs.List.{AllByRecursion}
 use Rattle.grammar.specs.declared.words.PortKind.{PortKind}
@@ -10,8 +10,6 @@ use Rattle.grammar.specs.declared.words.BracketUse.{BracketUse}
 use Rattle.grammar.specs.declared.words.BracketUse.TheVariants.{Open, OpenSecond, Close, CloseTask, CloseSync, CloseGuard, CloseNack}
 use Rattle.grammar.specs.declared.words.NumberUse.TheVariants.{NewPort, NewBody, SendPort, RecvPort, SpawnBody, NackBody, Delay, Addend}
 use Rattle.grammar.specs.declared.words.LiteralUse.TheVariants.{InAlways, InSet}
-use Rattle.grammar.specs.declared.words.Use.TheVariants.{Test}
-use Rattle.tokens.specs.Tokens.{atom}
 use Rattle.grammar.specs.Grammar as g
 use Rattle.grammar.specs.Grammar.{Part, form, each, number}
 use Rattle.passes.specs.Parts.{bytes}
@@ -26,7 +24,7 @@ use Rattle.rows.specs.Scripts as s
 use Rattle.rows.specs.Scripts.{spelling, ActionWithin, EventWithin, EventsWithin, InstrWithin, BodyWithin, Within}
 use Rattle.rows.specs.Rows.{row, rows, action_node, bodies}
 use Rattle.rows.specs.Entries.{bracket_entry, head_entry, EntryOf}
-use Rattle.rows.specs.Tables.{Table, with_entry, with_instr, declared}
+use Rattle.rows.specs.Tables.{Table, with_entry, with_instr}
 
 abbrev pub Steps : {M : Type 0} → (M → List ℕ) → List Part → Table M → Table M → Type 0
 Steps literal [] t u = t ≡ u

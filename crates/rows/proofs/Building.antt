@@ -1,5 +1,5 @@
 -- The rows while they are built from tokens and their uses.
-use Rattle.std.proofs.Common.{◌≡◌, ℕ, ◌<◌, ◌⊎◌, List, [], ◌∷◌, ◌++◌, map, length, sym, refl, ap, ◌∙◌, subst, inl, inr, append_assoc, append-nil}
+use Rattle.std.proofs.Common.{◌≡◌, ℕ, List, [], ◌∷◌, ◌++◌, map, sym, refl, ap, ◌∙◌, subst, inl, inr, append_assoc, append-nil}
 use Rattle.std.specs.List.{zip, AllByRecursion}
 use Rattle.std.proofs.ByRecursion.{All-from_get_or}
 use Rattle.tokens.specs.declared.token.Token.{Token}
@@ -9,16 +9,14 @@ use Rattle.grammar.specs.declared.words.Use.{Use}
 use Rattle.grammar.specs.Grammar as g
 use Rattle.grammar.specs.Grammar.{Part, part}
 use Rattle.grammar.specs.Forms.{with_uses}
-use Rattle.passes.specs.Parts.{bytes, bytes_in, nth}
+use Rattle.passes.specs.Parts.{bytes, bytes_in}
 use Rattle.passes.specs.Ranges.{Ranged, IsOutOfRange}
 use Rattle.passes.specs.Messages.{MessageFor, NoMessage}
 use Rattle.rows.specs.declared.row.Rows.{Rows}
-use Rattle.rows.specs.declared.entry.Entry.{Entry}
-use Rattle.rows.specs.Scripts.{Script, spelling}
-use Rattle.rows.specs.Entries.{EntryOf}
-use Rattle.rows.specs.Tables.{Table, table, blank_table, with_entry, PartAdded}
+use Rattle.rows.specs.Scripts.{spelling}
+use Rattle.rows.specs.Tables.{Table, table, blank_table, PartAdded}
 use Rattle.rows.specs.Build.{Built, Builds}
-use Rattle.rows.proofs.Held.{Held, holds}
+use Rattle.rows.proofs.Held.{holds}
 use Rattle.rows.proofs.Adding.{Adds, adds_append, part_adds, none, script_adds, after_script}
 use Rattle.rows.proofs.Holding.{script_held}
 use Rattle.rows.proofs.Valued.{Known, script_of}

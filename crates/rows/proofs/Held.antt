@@ -1,5 +1,5 @@
 -- Tables that hold a script.
-use Rattle.std.proofs.Common.{◌≡◌, ℕ, zero, suc, ◌<◌, cond, List, [], ◌∷◌, get_or, set, replicate, Some, None, Option, sym, refl, ap, ◌∙◌, subst, arith, ne_eqb}
+use Rattle.std.proofs.Common.{◌≡◌, ℕ, zero, suc, ◌<◌, cond, List, [], get_or, set, Some, None, Option, sym, ap, subst, arith, ne_eqb}
 use Rattle.std.proofs.lemmas.List.{get_or-replicate}
 use Rattle.rows.specs.declared.row.Instr.{Instr}
 use Rattle.rows.specs.declared.row.Node.{Node}

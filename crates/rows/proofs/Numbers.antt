@@ -1,5 +1,5 @@
 -- Whole bytes as a number or a literal.
-use Rattle.std.proofs.Common.{◌≡◌, ℕ, ◌≤◌, List, Some, None, Ok, Err, decimal, Option, Result, arith}
+use Rattle.std.proofs.Common.{◌≡◌, ℕ, List, Some, None, Ok, Err, Option, Result, arith}
 use Rattle.std.specs.Result.{result_ok}
 use Rattle.message.specs.declared.weight.Weight.{Weight}
 use Rattle.message.specs.declared.literal.LiteralFault.{LiteralFault}

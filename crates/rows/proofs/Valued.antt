@@ -1,5 +1,5 @@
 -- A script as written, whose numbers are in range and whose literals are messages', is the writing of a script of values.
-use Rattle.std.proofs.Common.{◌≡◌, ℕ, ◌≤◌, List, [], ◌∷◌, ◌++◌, sym, refl, ap, ◌∙◌, ap₂}
+use Rattle.std.proofs.Common.{◌≡◌, ℕ, ◌≤◌, List, [], ◌∷◌, ◌++◌, sym, refl, ap, ap₂}
 use Rattle.std.specs.List.{AllByRecursion}
 use Rattle.grammar.specs.declared.words.Keyword.TheVariants as word
 use Rattle.grammar.specs.declared.words.BracketUse.{BracketUse}

@@ -1,5 +1,5 @@
 -- A script as the rows of its table.
-use Rattle.std.specs.Prelude.{◌≡◌, ℕ, ◌+◌, ◌<◌, cond, List, [], ◌∷◌, ◌++◌, drop, Some, None, vec_items, Option, ◌==◌, slice_index_or}
+use Rattle.std.specs.Prelude.{◌≡◌, ℕ, ◌<◌, cond, List, [], ◌∷◌, ◌++◌, drop, Some, None, vec_items, Option, ◌==◌, slice_index_or}
 use Rattle.grammar.specs.declared.words.PortKind.{PortKind}
 use Rattle.grammar.specs.Grammar as g
 use Rattle.rows.specs.declared.row.Instr.{Instr}

@@ -6,7 +6,7 @@ use Rattle.message.specs.declared.kind.Sign.{Sign}
 use Rattle.grammar.specs.declared.words.PortKind.{PortKind}
 use Rattle.grammar.specs.declared.words.PortKind.TheVariants.{Channel, Mailbox, Ivar, Mvar}
 use Rattle.grammar.specs.Grammar as g
-use Rattle.rows.specs.Scripts.{Script, Instr}
+use Rattle.rows.specs.Scripts.{Instr}
 use Rattle.rows.specs.Rows.{port_kind, find_body, bodies}
 use Rattle.rules.specs.declared.kind.BaseKind.{BaseKind}
 use Rattle.rules.specs.declared.kind.BaseKind.TheVariants.{Port, Timeout}

@@ -1,5 +1,5 @@
 -- What holds of every run, whatever the script, the messages and the base event kinds.
-use Rattle.std.specs.Prelude.{◌≡◌, ℕ, suc, ◌<◌, ◌≤◌, Bool, true, false, ◌≢◌, ◌⊎◌, ◌↔◌, List, [], ◌∷◌, ◌++◌, map, length, Some, None, filter, nat_eq}
+use Rattle.std.specs.Prelude.{◌≡◌, ℕ, suc, ◌<◌, ◌≤◌, true, false, ◌≢◌, ◌⊎◌, ◌↔◌, List, [], ◌∷◌, ◌++◌, map, length, Some, None, filter, nat_eq}
 use mathlib.Core.List.{Memᴰ}
 use Rattle.std.specs.List.{range_with_len, AllByRecursion}
 use Rattle.rows.specs.Rows.{port_kind}
@@ -16,7 +16,7 @@ use Rattle.rules.specs.declared.offer.Offer.{Offer}
 use Rattle.rules.specs.declared.offer.Reply.TheVariants.{Closed, Alone, With}
 use Rattle.rules.specs.Kinds.{Kind, Meaning, Lawful, Partner, polled, oldest, accepts}
 use Rattle.rules.specs.Delivered.{channel, delivered}
-use Rattle.rules.specs.States.{Setting, Base, always, send, recv, due, nack, Leaf, Wait, running, waiting, Task, State}
+use Rattle.rules.specs.States.{Setting, Base, always, send, recv, due, nack, Leaf, running, waiting, Task, State}
 use Rattle.rules.specs.Limits.{Limited}
 use Rattle.rules.specs.Able.{Stands, Able, able_tasks, open_leaves, offers_in, reply, soonest_closed, most_tasks}
 use Rattle.rules.specs.Settling.{acted, or_blank}

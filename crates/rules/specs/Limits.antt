@@ -1,10 +1,10 @@
 -- The limits of ports, syncs and bodies.
-use Rattle.std.specs.Prelude.{ℕ, suc, ◌+◌, ◌≤◌, List, length, ℤ}
+use Rattle.std.specs.Prelude.{ℕ, suc, ◌+◌, ◌≤◌, length, ℤ}
 use Rattle.std.specs.List.{AllByRecursion}
 use Rattle.grammar.specs.Grammar as g
 use Rattle.passes.specs.Limits.{IsOverLimit}
 use Rattle.passes.specs.Ranges.{last_port}
-use Rattle.rows.specs.Scripts.{Script, Body, Instr, Event, Events}
+use Rattle.rows.specs.Scripts.{Script, Instr, Event, Events}
 use Rattle.rows.specs.Rows.{bodies}
 -- leaves and with-nacks of a sync, and instructions of a body
 pub use Rattle.passes.specs.Limits.{most_leaves, most_nacks, most_instrs}

@@ -1,5 +1,5 @@
 -- What holds of the nacks of every run.
-use Rattle.std.specs.Prelude.{◌≡◌, ℕ, suc, ◌+◌, ◌<◌, true, false, ◌⊎◌, ◌↔◌, List, [], ◌∷◌, ◌++◌, length}
+use Rattle.std.specs.Prelude.{◌≡◌, ℕ, suc, ◌+◌, ◌<◌, true, false, ◌⊎◌, ◌↔◌, List, [], ◌∷◌, length}
 use mathlib.Core.List.{Memᴰ}
 use Rattle.trace.specs.declared.record.Event.{Event}
 use Rattle.trace.specs.declared.record.Event.TheVariants as line

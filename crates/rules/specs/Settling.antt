@@ -1,5 +1,5 @@
 -- What settling a sync does: the result, the register, the nacks, the offers.
-use Rattle.std.specs.Prelude.{ℕ, suc, Bool, true, false, cond, ◌||◌, List, [], ◌∷◌, ◌++◌, map, Some, None, Option, ◌==◌}
+use Rattle.std.specs.Prelude.{ℕ, suc, Bool, false, cond, ◌||◌, List, [], ◌∷◌, ◌++◌, map, Some, None, Option, ◌==◌}
 use Rattle.grammar.specs.Grammar as g
 use Rattle.rows.specs.Scripts.{Action}
 use Rattle.trace.specs.declared.record.Event.{Event}

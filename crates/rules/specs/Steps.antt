@@ -8,7 +8,7 @@ use Rattle.rules.specs.declared.nack.Nack.{Nack}
 use Rattle.rules.specs.declared.nack.Nack.TheVariants.{Pending, Void}
 use Rattle.rules.specs.declared.offer.Reply.TheVariants.{Alone, With}
 use Rattle.rules.specs.Kinds.{enrolled_each}
-use Rattle.rules.specs.States.{Setting, Base, send, recv, Leaf, Wait, running, waiting, Task, State}
+use Rattle.rules.specs.States.{Setting, send, recv, Leaf, running, waiting, Task, State}
 use Rattle.rules.specs.Evaluation.{nacks, leaves}
 use Rattle.rules.specs.Able.{instr_at, sign_at, placed, offers_in, reply, Stands, Ready}
 use Rattle.rules.specs.Settling.{put, settled, result, shown, commit_at, Settlement, fires, after_settling}

@@ -1,6 +1,6 @@
 -- From what each pass finds among the tokens to what holds of the text.
 use Rattle.std.proofs.Common.{◌≡◌, ℕ, zero, suc, ◌+◌, ◌<◌, ◌≤◌, List, [], ◌∷◌, ◌++◌, map, length, get_or, take, drop, sym, refl, ap, ◌∙◌, subst, inl, inr, append_assoc, arith}
-use Rattle.std.proofs.lemmas.List.{take-append-drop, take-take, take_all, append-nil}
+use Rattle.std.proofs.lemmas.List.{take-append-drop, take-take, append-nil}
 use Rattle.std.proofs.lemmas.Bool.{cases_lt}
 use Rattle.tokens.specs.Places.{First, Nowhere}
 use Rattle.tokens.specs.Tokens.{Lexeme, tokens, lexemes, place, place_of}
@@ -10,14 +10,13 @@ use Rattle.tokens.specs.Reading.{placed, lexeme}
 use Rattle.tokens.specs.Tokenised.{Tokenised}
 use Rattle.tokens.proofs.Rising.{places_ordered}
 use Rattle.grammar.specs.declared.words.Use.{Use}
-use Rattle.grammar.specs.Grammar.{Part, part_lexemes, raw_parts, IsScript, Viable}
-use Rattle.grammar.specs.Forms.{MisfitAt, Misfit, Uses, with_uses, UsedOnce}
+use Rattle.grammar.specs.Grammar.{Part, IsScript, Viable}
+use Rattle.grammar.specs.Forms.{MisfitAt, Misfit, Uses, with_uses}
 use Rattle.grammar.proofs.Determined.{uses_determined}
 use Rattle.passes.specs.Parts.{nth, bytes}
 use Rattle.message.specs.declared.literal.LiteralFault.{LiteralFault}
 use Rattle.message.specs.Literals.{Longest}
 use Rattle.script.specs.declared.fault.Fault.{Fault}
-use Rattle.script.specs.Faults.{fault_number, fault_place}
 use Rattle.script.specs.Refusals.{Rule, too_long, foreign_byte, too_deep, misfit, out_of_range, misnamed, over_limit, no_message, rule_number, Broken, IsInScript, Refused, RefusedLiteral}
 use Rattle.script.specs.Stages.{KeptBelow, Breaks, Formed}
 

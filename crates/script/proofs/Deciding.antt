@@ -1,5 +1,5 @@
 -- The verdict on a text, from what each stage answers.
-use Rattle.std.proofs.Common.{◌≡◌, ℕ, ◌+◌, ◌<◌, ◌≤◌, ◌⊎◌, List, [], ◌∷◌, ◌++◌, map, length, Ok, Err, vec_items, codes, decimal, sym, refl, ap, ◌∙◌, subst, inl, inr, arith, length-append}
+use Rattle.std.proofs.Common.{◌≡◌, ℕ, ◌⊎◌, List, [], ◌∷◌, ◌++◌, map, length, Err, vec_items, codes, decimal, sym, refl, ap, ◌∙◌, subst, inl, inr, arith, length-append}
 use Rattle.std.specs.Fmt.{digits}
 use Rattle.message.specs.declared.literal.LiteralFault.{LiteralFault}
 use Rattle.tokens.specs.declared.text.TextFault.{TextFault}
@@ -8,7 +8,7 @@ use Rattle.tokens.specs.declared.token.Token.{Token}
 use Rattle.tokens.specs.Places.{First, Nowhere}
 use Rattle.tokens.specs.Text.{IsTooLong, IsForeignByte, IsTooDeep}
 use Rattle.tokens.specs.TextFaults.{TextVerdict}
-use Rattle.tokens.specs.Tokens.{Lexeme, opening, closing, atom, lexemes}
+use Rattle.tokens.specs.Tokens.{opening, closing, atom, lexemes}
 use Rattle.tokens.specs.Reading.{lexeme}
 use Rattle.grammar.specs.declared.words.Use.{Use}
 use Rattle.grammar.specs.Grammar as g
@@ -19,7 +19,7 @@ use Rattle.passes.specs.Ranges.{IsOutOfRange}
 use Rattle.passes.specs.Names.{Misnamed}
 use Rattle.passes.specs.Limits.{IsOverLimit}
 use Rattle.passes.specs.Messages.{NoMessage}
-use Rattle.rows.specs.Scripts.{Script, ScriptOf, Within, spelling}
+use Rattle.rows.specs.Scripts.{ScriptOf}
 use Rattle.rows.specs.Rows.{empty_script}
 use Rattle.rows.specs.Build.{Builds}
 use Rattle.std.proofs.lemmas.List.{length-map}
@@ -31,11 +31,11 @@ use Rattle.script.specs.declared.fault.NamesFault.{NamesFault}
 use Rattle.script.specs.declared.fault.NamesFault.TheVariants as names
 use Rattle.script.specs.declared.fault.MessageFault.{MessageFault}
 use Rattle.script.specs.declared.fault.MessageFault.TheVariants as message
-use Rattle.script.specs.Refusals.{Rule, too_long, foreign_byte, too_deep, misfit, out_of_range, misnamed, over_limit, no_message, rule_number, Broken, IsInScript, Refused, RefusedLiteral, Verdict}
+use Rattle.script.specs.Refusals.{too_long, foreign_byte, too_deep, misfit, out_of_range, misnamed, over_limit, no_message, IsInScript, Refused, RefusedLiteral, Verdict}
 use Rattle.script.specs.declared.checked.Checked.{Checked}
 use Rattle.script.specs.Checks.{or_new, Means}
-use Rattle.script.specs.Stages.{KeptBelow, Breaks, Formed, Stage, FormStage, LiteralStage}
-use Rattle.script.proofs.Composing.{kept_more, kept_none, kept_all, refused_by, no_misfit, nowhere_back, tokens_lexemes}
+use Rattle.script.specs.Stages.{KeptBelow, Formed}
+use Rattle.script.proofs.Composing.{kept_more, kept_none, refused_by, no_misfit, nowhere_back, tokens_lexemes}
 
 -- The text.
 

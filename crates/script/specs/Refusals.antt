@@ -1,10 +1,10 @@
 -- The eight rules of a script, each as a proposition about the text alone, and the verdict on a text.
-use Rattle.std.specs.Prelude.{◌≡◌, ℕ, ◌<◌, List, [], length, get_or, Ok, Err, Result}
+use Rattle.std.specs.Prelude.{◌≡◌, ℕ, ◌<◌, List, length, Ok, Err, Result}
 use Rattle.message.specs.declared.literal.LiteralFault.{LiteralFault}
 use Rattle.message.specs.Literals.{Longest}
 use Rattle.tokens.specs.Places.{First, Nowhere}
 use Rattle.tokens.specs.Text.{IsTooLong, IsForeignByte, IsTooDeep}
-use Rattle.tokens.specs.Tokens.{tokens, lexemes, place_of, Lexeme}
+use Rattle.tokens.specs.Tokens.{tokens, lexemes, place_of}
 use Rattle.grammar.specs.declared.words.Use.{Use}
 use Rattle.grammar.specs.Grammar.{Part}
 use Rattle.grammar.specs.Forms.{Misfit, Uses, with_uses}

@@ -1,5 +1,5 @@
 -- The places of a text's tokens rise, and lie before its end.
-use Rattle.std.proofs.Common.{◌≡◌, ℕ, zero, suc, ◌+◌, ◌<◌, ◌≤◌, List, [], ◌∷◌, map, length, get_or, sym, refl, ap, ◌∙◌, subst, arith}
+use Rattle.std.proofs.Common.{◌≡◌, ℕ, zero, suc, ◌+◌, ◌≤◌, List, [], ◌∷◌, length, subst, arith}
 use Rattle.tokens.specs.Tokens.{Placed, at, place, opening, closing, atom, Class, parts, opens, closes, runs, class, next_class, with_run, with_byte, tokens_from, tokens, place_of}
 
 -- places from lo on that rise and lie before hi

@@ -1,9 +1,8 @@
-use Rattle.std.proofs.Common.{◌≡◌, ℕ, suc, ◌+◌, ◌-◌, ◌<◌, List, [], ◌∷◌, ◌++◌, length, get_or, take, drop, negsuc, ◌-ℤ◌, Some, None, decimal, sym, refl, ap, ◌∙◌, subst, inl, inr, add-one, arith, w32, to_z, of_z}
+use Rattle.std.proofs.Common.{◌≡◌, ℕ, suc, ◌+◌, ◌-◌, ◌<◌, List, ◌∷◌, length, get_or, take, drop, negsuc, ◌-ℤ◌, None, decimal, sym, ap, ◌∙◌, subst, inl, inr, add-one, arith, w32, to_z, of_z}
 use Rattle.std.proofs.lemmas.Bool.{cases_lt}
 use Rattle.std.specs.Fmt.{signed_decimal}
 use Rattle.std.proofs.lemmas.Int.{ints}
 use Rattle.std.proofs.lemmas.Slice.{first_rest}
-use Rattle.message.specs.declared.weight.Weight.{Weight}
 use Rattle.message.specs.Literals.{Longest, Leads}
 use Rattle.message.specs.Weights.{weight_literal}
 use Rattle.message.specs.Weighing.{minus_longest, minus_alone, never_minus}

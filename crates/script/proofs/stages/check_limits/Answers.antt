@@ -1,4 +1,4 @@
-use Rattle.std.proofs.Common.{◌≡◌, ◌≤◌, map, length, sym, refl, ap, ◌∙◌, arith}
+use Rattle.std.proofs.Common.{map, refl}
 use Rattle.tokens.specs.Reading.{lexeme}
 use Rattle.passes.specs.Limits.{IsOverLimit}
 use Rattle.script.proofs.Composing.{stage_first, stage_nowhere, formed_length}

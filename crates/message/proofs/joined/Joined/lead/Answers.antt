@@ -1,6 +1,4 @@
-use Rattle.std.proofs.Common.{◌≡◌, ◌+◌, take, Option, subst, arith}
-use Rattle.message.specs.declared.literal.Lead.{Lead}
-use Rattle.message.specs.declared.joined.Joined.{Joined}
+use Rattle.std.proofs.Common.{◌+◌, take, Option, subst, arith}
 use Rattle.message.specs.Literals.{Found, Leads}
 use Rattle.message.specs.Joins.{joined}
 use Rattle.message.specs.Joining.{right_decides, left_decides, with_left}

@@ -1,4 +1,4 @@
-use Rattle.std.proofs.Common.{◌<◌, ◌∷◌, arith, length-append, rules}
+use Rattle.std.proofs.Common.{◌<◌, ◌∷◌, arith, length-append}
 use Rattle.message.proofs.Pages.{room_joined}
 use Rattle.message.proofs.joined.Joined.room_after.Goals as goal
 

@@ -1,5 +1,4 @@
-use Rattle.std.proofs.Common.{◌≡◌, ◌+◌, ◌-◌, ◌<◌, ◌≤◌, true, false, not, ◌∷◌, ◌++◌, length, is_some, refl, ap, ◌∙◌, arith, length-append}
-use Rattle.message.specs.Joins.{joined}
+use Rattle.std.proofs.Common.{not, ◌∷◌, refl, ap, ◌∙◌, arith, length-append}
 use Rattle.message.proofs.Pages.{has_room, no_room, byte_fits, writes_joined}
 use Rattle.message.proofs.joined.Joined.write.Goals as goal
 use Rattle.message.proofs.joined.Joined.write.Goals.{then-at-page-via-then-at-page, then-at-page-via-else-at-page+then-is_none}

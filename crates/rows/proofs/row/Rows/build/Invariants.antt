@@ -1,5 +1,3 @@
-use Rattle.std.proofs.Common.{◌≡◌, List, ◌++◌, map}
-use Rattle.std.specs.List.{AllByRecursion}
 use Rattle.rows.specs.Tables.{table}
 use Rattle.rows.proofs.Building.{SoFar}
 use Rattle.rows.proofs.Pairing.{pairs_rest}
