@@ -5,115 +5,79 @@ ghost use Rattle.rules.specs.Limits.{LimitsLaw};
 ghost use Rattle.rules.specs.Nacks.{NackLaw, VoidLaw, FireLaw};
 ghost use Rattle.rules.specs.Holdings.{HeldLaw, OwnPortsLaw};
 
-pub fn no_sync_is_settled_twice<M>() -> u8
+pub fn no_sync_is_settled_twice<M>()
     ensures { SettledOnce M }
-{
-    0
-}
+{}
 
-pub fn a_pair_joins_a_send_and_a_receive<M>() -> u8
+pub fn a_pair_joins_a_send_and_a_receive<M>()
     ensures { PairsJoin M }
-{
-    0
-}
+{}
 
-pub fn a_sync_settled_alone_was_open_alone<M>() -> u8
+pub fn a_sync_settled_alone_was_open_alone<M>()
     ensures { OnesSettle M }
-{
-    0
-}
+{}
 
-pub fn an_accepted_script_keeps_its_limits<M>() -> u8
+pub fn an_accepted_script_keeps_its_limits<M>()
     ensures { LimitsLaw M }
-{
-    0
-}
+{}
 
-pub fn only_waiting_leaves_are_offered<M>() -> u8
+pub fn only_waiting_leaves_are_offered<M>()
     ensures { OffersLaw M }
-{
-    0
-}
+{}
 
-pub fn a_post_finds_room<M>() -> u8
+pub fn a_post_finds_room<M>()
     ensures { PostsLaw M }
-{
-    0
-}
+{}
 
-pub fn only_those_who_step_change<M>() -> u8
+pub fn only_those_who_step_change<M>()
     ensures { FrameLaw M }
-{
-    0
-}
+{}
 
-pub fn just_the_able_tasks_have_steps<M>() -> u8
+pub fn just_the_able_tasks_have_steps<M>()
     ensures able { StepsOfAble M }
     ensures moves { MovesLaw M }
     ensures listed { ListedAble M }
-{
-    0
-}
+{}
 
-pub fn quiet_when_no_step_exists<M>() -> u8
+pub fn quiet_when_no_step_exists<M>()
     ensures { QuietLaw M }
-{
-    0
-}
+{}
 
-pub fn numbers_rise<M>() -> u8
+pub fn numbers_rise<M>()
     ensures { NumbersLaw M }
-{
-    0
-}
+{}
 
-pub fn few_tasks_live<M>() -> u8
+pub fn few_tasks_live<M>()
     ensures { LiveLaw M }
-{
-    0
-}
+{}
 
-pub fn a_branch_is_the_leaves_in_its_with_nack<M>() -> u8
+pub fn a_branch_is_the_leaves_in_its_with_nack<M>()
     ensures { BranchLaw M }
-{
-    0
-}
+{}
 
-pub fn a_nack_fires_when_settled_outside_its_branch<M>() -> u8
+pub fn a_nack_fires_when_settled_outside_its_branch<M>()
     ensures made { NackLaw M }
     ensures void { VoidLaw M }
-{
-    0
-}
+{}
 
-pub fn one_fire_record_for_each_nack_that_fires<M>() -> u8
+pub fn one_fire_record_for_each_nack_that_fires<M>()
     ensures { FireLaw M }
-{
-    0
-}
+{}
 
-pub fn messages_are_kept<M>() -> u8
+pub fn messages_are_kept<M>()
     ensures held { HeldLaw M }
     ensures own { OwnPortsLaw M }
-{
-    0
-}
+{}
 
-pub fn the_delivered_kinds_are_lawful() -> u8
+pub fn the_delivered_kinds_are_lawful()
     ensures lawful { DeliveredLawful }
     ensures replies { DeliveredReplies }
-{
-    0
-}
+{}
 
-pub fn a_channel_pairs_with_the_smallest_sync() -> u8
+pub fn a_channel_pairs_with_the_smallest_sync()
     ensures { ChannelLaw }
-{
-    0
-}
+{}
 
-pub fn the_soonest_due_time_is_the_smallest<X>() -> u8
+pub fn the_soonest_due_time_is_the_smallest<X>()
     ensures { SoonestLaw X }
-{
-    0
-}
+{}
