@@ -3,5 +3,4 @@ ghost use Rattle.replay.specs.Worked.{Worked};
 
 pub fn worked_cases_hold()
     ensures { Worked }
-{
-}
+{}
