@@ -1,18 +1,18 @@
 #![tactic(auto)]
 
-mod input;
 mod show;
 mod verdict;
 
-use message::kind::Message;
 use message::ticket::Ticket;
 use message::weight::Weight;
+use show::print_verdict;
 use std::io::Read;
-use std::{env, fs, io};
+use std::{env, fmt, fs, io};
 use tokens::text::LONGEST_TEXT;
+use verdict::judge;
 
 // One byte more than a script may have tells that it is too long.
-const MOST_READ: usize = LONGEST_TEXT + 1;
+const MOST_READ: u64 = LONGEST_TEXT as u64 + 1;
 
 // The message kind that scripts are checked for.
 #[derive(Clone, Copy)]
@@ -21,26 +21,31 @@ enum Kind {
     Tickets,
 }
 
-fn report_as<M: Message>(rt: &HostRuntime, kind: &str, text: &[u8]) -> io::Result<()> {
-    show::print_verdict(rt, kind, text, verdict::judge::<M>(rt.alloc(), text))
+impl fmt::Display for Kind {
+    fn fmt<W: fmt::Write>(&self, f: &mut fmt::Formatter<W>) -> fmt::Result {
+        f.write_str(match self {
+            Kind::Weights => "weights",
+            Kind::Tickets => "tickets",
+        })
+    }
 }
 
-fn report<R: Read>(rt: &HostRuntime, kind: Kind, source: &mut R) -> io::Result<()> {
-    let mut page = [0; MOST_READ];
-    let text = match input::fill(source, &mut page) {
-        Ok(n) => &page[0..n],
-        Err(e) => return println!(rt; "cannot be read: {e}"),
-    };
-    match kind {
-        Kind::Weights => report_as::<Weight>(rt, "weights", text),
-        Kind::Tickets => report_as::<Ticket>(rt, "tickets", text),
+fn report<R: Read + Drop>(rt: &HostRuntime, kind: Kind, source: R) -> io::Result<()> {
+    let mut text = Vec::new(rt.alloc());
+    if let Err(e) = source.take(MOST_READ).read_to_end(&mut text) {
+        return println!(rt; "cannot be read: {e}");
     }
+    let verdict = match kind {
+        Kind::Weights => judge::<Weight>(rt.alloc(), &text),
+        Kind::Tickets => judge::<Ticket>(rt.alloc(), &text),
+    };
+    print_verdict(rt, kind, &text, verdict)
 }
 
 fn report_file(rt: &HostRuntime, kind: Kind, path: &str) -> io::Result<()> {
     println!(rt; "{path}")?;
     match fs::open(rt, path) {
-        Ok(mut file) => report(rt, kind, &mut file),
+        Ok(file) => report(rt, kind, file),
         Err(e) => println!(rt; "cannot be opened: {e}"),
     }
 }
@@ -66,7 +71,7 @@ fn run(rt: &HostRuntime) -> io::Result<()> {
     if is_named {
         Ok(())
     } else {
-        report(rt, kind, &mut rt.stdin())
+        report(rt, kind, rt.stdin())
     }
 }
 

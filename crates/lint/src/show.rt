@@ -1,4 +1,5 @@
 // How a verdict is printed.
+use crate::Kind;
 use crate::verdict::Counts;
 use excerpt::{Excerpt, excerpt_at, shown};
 use script::fault::{Fault, FormFault, MessageFault, NamesFault};
@@ -7,12 +8,14 @@ use tokens::text::TextFault;
 
 impl fmt::Display for Counts {
     fn fmt<W: fmt::Write>(&self, f: &mut fmt::Formatter<W>) -> fmt::Result {
-        let channels = self.channels;
-        let mailboxes = self.mailboxes;
-        let ivars = self.ivars;
-        let mvars = self.mvars;
-        let bodies = self.bodies;
-        let events = self.events;
+        let Counts {
+            channels,
+            mailboxes,
+            ivars,
+            mvars,
+            bodies,
+            events,
+        } = *self;
         write!(
             f,
             "channels {channels}, mailboxes {mailboxes}, ivars {ivars}, mvars {mvars}, bodies {bodies}, events {events}"
@@ -82,7 +85,7 @@ fn print_inner(rt: &impl Print, fault: Fault) -> io::Result<()> {
 
 pub fn print_verdict(
     rt: &impl Print,
-    kind: &str,
+    kind: Kind,
     text: &[u8],
     verdict: Result<Counts, Fault>,
 ) -> io::Result<()> {

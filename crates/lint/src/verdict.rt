@@ -12,31 +12,30 @@ use tokens::token::tokens;
 // An accepted script, in numbers.
 #[derive(Clone, Copy)]
 pub struct Counts {
-    pub channels: u32,
-    pub mailboxes: u32,
-    pub ivars: u32,
-    pub mvars: u32,
-    pub bodies: u32,
+    pub channels: usize,
+    pub mailboxes: usize,
+    pub ivars: usize,
+    pub mvars: usize,
+    pub bodies: usize,
     pub events: usize,
 }
 
 fn is_event(purpose: Use) -> bool {
-    match purpose {
-        Use::Head(word) => match word {
+    matches!(
+        purpose,
+        Use::Head(
             Keyword::Never
-            | Keyword::Always
-            | Keyword::Send
-            | Keyword::Recv
-            | Keyword::Timeout
-            | Keyword::Nack
-            | Keyword::Choose
-            | Keyword::Wrap
-            | Keyword::Guard
-            | Keyword::WithNack => true,
-            _ => false,
-        },
-        _ => false,
-    }
+                | Keyword::Always
+                | Keyword::Send
+                | Keyword::Recv
+                | Keyword::Timeout
+                | Keyword::Nack
+                | Keyword::Choose
+                | Keyword::Wrap
+                | Keyword::Guard
+                | Keyword::WithNack
+        )
+    )
 }
 
 fn count_events(heap: Global, text: &[u8]) -> Result<usize, Fault> {
@@ -44,33 +43,15 @@ fn count_events(heap: Global, text: &[u8]) -> Result<usize, Fault> {
     let Ok(uses) = uses(heap, &tokens) else {
         return Err(Fault::Memory);
     };
-    let mut events = 0usize;
-    for purpose in uses.as_slice() {
-        if is_event(*purpose) {
-            events = events.saturating_add(1);
-        }
-    }
-    Ok(events)
+    Ok(uses.iter().filter(|purpose| is_event(**purpose)).count())
 }
 
-fn count_ports<M: Message>(rows: &Rows<M>, kind: PortKind) -> u32 {
-    let mut count = 0u32;
-    for p in 0..16u8 {
-        if rows.port(p) == Some(kind) {
-            count = count.saturating_add(1);
-        }
-    }
-    count
+fn count_ports<M: Message>(rows: &Rows<M>, kind: PortKind) -> usize {
+    (0..16).filter(|p| rows.port(*p) == Some(kind)).count()
 }
 
-fn count_bodies<M: Message>(rows: &Rows<M>) -> u32 {
-    let mut count = 0u32;
-    for b in 0..32u8 {
-        if rows.body(b).is_some() {
-            count = count.saturating_add(1);
-        }
-    }
-    count
+fn count_bodies<M: Message>(rows: &Rows<M>) -> usize {
+    (0..32).filter(|b| rows.body(*b).is_some()).count()
 }
 
 // Checks the script, and counts what an accepted one declares.
