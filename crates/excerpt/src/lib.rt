@@ -5,15 +5,10 @@ ghost use Rattle.std.specs.Prelude.{◌≡◌, ◌≤◌, min, length};
 ghost use Rattle.excerpt.specs.Lines.{line_feeds, LineAt};
 ghost use Rattle.excerpt.specs.Windows.{Window, ExcerptOf, shown_byte};
 
+use std::ops::Range;
+
 // So many bytes of a line are shown at most.
 const WIDEST: usize = 72;
-
-// Some bytes of a text; `end` is the place after the last of them.
-#[derive(Clone, Copy)]
-pub struct Span {
-    pub start: usize,
-    pub end: usize,
-}
 
 // What is shown of a place: its line, or the part around it. Line and column count from 0, and
 // `caret` counts the shown bytes before the place.
@@ -31,48 +26,40 @@ pub fn line_feeds(text: &[u8]) -> usize
     ensures value { result ≡ line_feeds text.now }
     ensures bound { result ≤ length text.now }
 {
-    let mut n = 0;
-    for b in text {
-        if *b == b'\n' {
-            n += 1;
-        }
-    }
-    n
+    text.iter().filter(|b| **b == b'\n').count()
 }
 
 // The line that the place lies in, which past the text's end is its last.
-pub fn line_of(text: &[u8], at: usize) -> Span
+pub fn line_of(text: &[u8], at: usize) -> Range<usize>
     ensures { LineAt text.now (min at (length text.now)) result.start result.end }
 {
     let at = at.min(text.len());
-    let mut start = at;
-    while start > 0 && text[start - 1] != b'\n' {
-        start -= 1;
-    }
-    let mut end = at;
-    while end < text.len() && text[end] != b'\n' {
-        end += 1;
-    }
-    Span { start, end }
+    let (before, after) = text.split_at(at);
+    let start = before
+        .iter()
+        .rposition(|b| *b == b'\n')
+        .map_or(0, |i| i + 1);
+    let end = after
+        .iter()
+        .position(|b| *b == b'\n')
+        .map_or(text.len(), |i| at + i);
+    start..end
 }
 
 // The part of a line that is shown: all of it, or as much as there is room for around the place.
-fn window(line: Span, at: usize) -> Span
-    requires from { line.start ≤ at }
-    requires to { at ≤ line.end }
-    ensures { Window line.start line.end at result.start result.end }
+fn window(line: &Range<usize>, at: usize) -> Range<usize>
+    requires from { line.now.start ≤ at }
+    requires to { at ≤ line.now.end }
+    ensures { Window line.now.start line.now.end at result.start result.end }
 {
-    if line.end - line.start <= WIDEST {
-        return line;
+    if line.len() <= WIDEST {
+        return line.start..line.end;
     }
     let start = at
         .saturating_sub(WIDEST / 2)
         .max(line.start)
         .min(line.end - WIDEST);
-    Span {
-        start,
-        end: start + WIDEST,
-    }
+    start..start + WIDEST
 }
 
 pub fn excerpt_at(text: &[u8], at: usize) -> Excerpt<'_>
@@ -80,14 +67,14 @@ pub fn excerpt_at(text: &[u8], at: usize) -> Excerpt<'_>
 {
     let at = at.min(text.len());
     let line = line_of(text, at);
-    let Span { start, end } = window(line, at);
+    let part = window(&line, at);
     Excerpt {
-        line: line_feeds(&text[0..at]),
+        line: line_feeds(&text[..at]),
         column: at - line.start,
-        is_cut_before: line.start < start,
-        bytes: &text[start..end],
-        is_cut_after: end < line.end,
-        caret: at - start,
+        is_cut_before: line.start < part.start,
+        is_cut_after: part.end < line.end,
+        caret: at - part.start,
+        bytes: &text[part],
     }
 }
 

@@ -17,7 +17,7 @@ use Rattle.grammar.specs.declared.items.Item.TheVariants.{Top, Bodies, Instrs, E
 use Rattle.tokens.specs.Tokens.{opening, atom}
 use Rattle.grammar.specs.Grammar as g
 use Rattle.grammar.specs.Grammar.{Part, part, Raw, raw_parts, as_written, each, spelled, test_word}
-use Rattle.grammar.specs.Machine.{find, keyword, tested, after, as_head, onto, step}
+use Rattle.grammar.specs.Machine.{keyword, tested, after, as_head, onto, step}
 use Rattle.grammar.proofs.Runs.{Run, stop, read, regroup}
 use Rattle.grammar.proofs.Values.{RawEvent, RawEvents, RawInstr, RawBody, shuts, opens, opened_event}
 
@@ -40,18 +40,18 @@ one_of s' a rest e f run =
 -- each part of a script takes its item off the stack
 
 test_taken : (t : Sign) {s s₁ : List Item} {ps : List Part} → Run s ps s₁ → Run (Test ∷ s) (part (purpose.Test t) (atom (test_word t)) ∷ ps) s₁
-unfolding tested find
+unfolding tested
 test_taken Neg run = read refl run
 test_taken Zero run = read refl run
 test_taken Pos run = read refl run
 
 action_taken : (a : g.Action (List ℕ) (List ℕ)) {s s₁ : List Item} {ps : List Part} → Run s ps s₁ → Run (Action ∷ s) (g.action as_written a ++ ps) s₁
-unfolding keyword find
+unfolding keyword
 action_taken (g.set l) run = read refl (head role.Action Set refl (read refl (read refl run)))
 action_taken (g.add k) run = read refl (head role.Action Add refl (read refl (read refl run)))
 
 mutual
-  unfolding keyword find
+  unfolding keyword
 
   event_taken : (e : RawEvent) (u : BracketUse) {s s₁ : List Item} {ps : List Part} → Run s ps s₁ → Run (Event u ∷ s) (g.event as_written u e ++ ps) s₁
   event_taken g.never u run = read refl (head role.Event Never refl (read refl run))
@@ -70,7 +70,7 @@ mutual
   events_taken (g.more e es) {s} run = regroup (append_assoc (g.event as_written Open e) (g.events as_written es) _) (one_of (Events ∷ s) (g.event as_written Open e) _ (opened_event Open e) refl (event_taken e Open (events_taken es run)))
 
 instr_taken : (x : RawInstr) {s s₁ : List Item} {ps : List Part} → Run (Instrs ∷ s) ps s₁ → Run (Instrs ∷ s) (g.instr as_written x ++ ps) s₁
-unfolding keyword find
+unfolding keyword
 instr_taken (g.sync e) run = read refl (head role.Instr Sync refl (regroup (append_assoc (g.event as_written Open e) _ _) (event_taken e Open (read refl run))))
 instr_taken (g.spawn b) run = read refl (head role.Instr Spawn refl (read refl (read refl run)))
 instr_taken g.emit run = read refl (head role.Instr Emit refl (read refl run))
@@ -81,19 +81,19 @@ instrs_taken [] run = read refl run
 instrs_taken (x ∷ xs) run = regroup (append_assoc (g.instr as_written x) (each (g.instr as_written) xs) _) (instr_taken x (instrs_taken xs run))
 
 bodies_taken : (bs : List RawBody) {s : List Item} → Run (Bodies ∷ s) (each (g.body as_written) bs) (Bodies ∷ s)
-unfolding keyword find
+unfolding keyword
 bodies_taken [] = stop
 bodies_taken (b ∷ bs) = read refl (head role.Body Task refl (read refl (regroup (append_assoc (each (g.instr as_written) b.instrs) (shuts CloseTask ∷ []) _) (instrs_taken b.instrs (bodies_taken bs)))))
 
 port_taken : (k : PortKind) (bs : List ℕ) {s s₁ : List Item} {ps : List Part} → Run (Top ∷ s) ps s₁ → Run (Top ∷ s) (g.port {K = List ℕ} {L = List ℕ} as_written (record { kind = k; number = bs }) ++ ps) s₁
-unfolding keyword find
+unfolding keyword
 port_taken kind.Channel bs run = read refl (head role.Top Channel refl (read refl (read refl run)))
 port_taken kind.Mailbox bs run = read refl (head role.Top Mailbox refl (read refl (read refl run)))
 port_taken kind.Ivar bs run = read refl (head role.Top Ivar refl (read refl (read refl run)))
 port_taken kind.Mvar bs run = read refl (head role.Top Mvar refl (read refl (read refl run)))
 
 top_taken : (ps : List (g.Port (List ℕ))) (b : RawBody) (bs : List RawBody) → Run (Top ∷ []) (each (g.port as_written) ps ++ (g.body as_written b ++ each (g.body as_written) bs)) (Bodies ∷ [])
-unfolding keyword find
+unfolding keyword
 top_taken [] b bs = read refl (head role.Top Task refl (read refl (regroup (append_assoc (each (g.instr as_written) b.instrs) (shuts CloseTask ∷ []) _) (instrs_taken b.instrs (bodies_taken bs)))))
 top_taken (p ∷ ps) b bs = port_taken p.kind p.number (top_taken ps b bs)
 

@@ -8,7 +8,7 @@ use Rattle.grammar.specs.Grammar.{as_written, raw_parts, part_lexemes, IsScript}
 use Rattle.grammar.specs.Forms.{with_uses, Uses, UsedOnce, Injective}
 use Rattle.grammar.proofs.Runs.{Run, regroup, same_end}
 use Rattle.grammar.proofs.Complete.{script_taken}
-use Rattle.grammar.proofs.Parts.{lexemes_of, purposes_of, parts_of}
+use Rattle.grammar.proofs.Parts.{lexemes_of, purposes_of, put_together}
 use Rattle.grammar.proofs.Once.{written_once}
 
 reads : (ls : List Lexeme) (us : List Use) → Uses ls us → Run (Top ∷ []) (with_uses us ls) (Bodies ∷ [])
@@ -36,7 +36,7 @@ script_has_uses ls x =
         raw = x.raw;
         spelled_well = x.spelled_well;
         long = length-map ps (λ p. p.purpose) ∙ sym (length-map ps (λ p. p.lexeme)) ∙ ap (λ l. length l) x.written;
-        written = sym (parts_of ps) ∙ ap (with_uses (map (λ p. p.purpose) ps)) x.written;
+        written = sym (put_together ps) ∙ ap (with_uses (map (λ p. p.purpose) ps)) x.written;
       },
     )
 

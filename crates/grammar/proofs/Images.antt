@@ -12,7 +12,7 @@ use Rattle.grammar.specs.declared.words.NumberUse.TheVariants.{NewBody, NackBody
 use Rattle.tokens.specs.Tokens.{atom, Run, Integer}
 use Rattle.grammar.specs.Grammar.{Part, part, Spelling, Action, set, add, Event, never, nack, always, send, recv, timeout, choose, wrap, guard, with_nack, Events, none, more, Instr, sync, spawn, emit, again, Port, Body, Script, form, number, each, action, event, events, instr, port, body, script, test_word, Raw, as_written, raw_parts, WellSpelled, part_lexemes, IsScript}
 use Rattle.grammar.specs.Forms.{Uses}
-use Rattle.grammar.proofs.Parts.{Fit, parts_of}
+use Rattle.grammar.proofs.Parts.{Fit, put_together}
 
 -- numbers are spelled as integers, and literals as runs
 pub record Proper {N K L : Type 0} (s : Spelling N K L) : Type 0 where
@@ -155,5 +155,5 @@ module _ {N K L : Type 0} (s : Spelling N K L) (h : Proper s) where
     raw = raw_script s x;
     spelled_well = image_spelled_well x;
     long = length-map (script s x) (λ p. p.purpose) ∙ sym (length-map (script s x) (λ p. p.lexeme));
-    written = script_image s x ∙ sym (parts_of (script s x));
+    written = script_image s x ∙ sym (put_together (script s x));
   }

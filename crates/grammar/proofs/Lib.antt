@@ -1,5 +1,3 @@
-pub mod Finding
-pub mod Steps
 pub mod Runs
 pub mod Values
 pub mod Sound

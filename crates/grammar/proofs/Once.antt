@@ -1,5 +1,5 @@
 -- A script is determined by its parts, where the spelling tells numbers and literals apart.
-use Rattle.std.proofs.Common.{◌≡◌, ℕ, List, [], ◌∷◌, ◌++◌, sym, refl, ap, ◌∙◌, subst, ap₂, append_assoc, arith}
+use Rattle.std.proofs.Common.{◌≡◌, ℕ, List, [], ◌∷◌, ◌++◌, sym, refl, ap, ◌∙◌, subst, ap₂, append_assoc}
 use Rattle.message.specs.declared.kind.Sign.{Sign}
 use Rattle.grammar.specs.declared.words.PortKind.{PortKind}
 use Rattle.grammar.specs.declared.words.PortKind.TheVariants as kind
@@ -51,8 +51,7 @@ short_once o o' k k' u u' a a' c c' r r' e =
 not_closed : (c o : BracketUse) (r r' : List Part) → shuts c ∷ r ≡ opens o ∷ r' → ⊥
 not_closed c o r r' e =
     let f : ◌≡◌ {A = Lexeme} closing opening = first_lexeme _ _ r r' e in
-    let z : ◌≡◌ {A = ℕ} 0 1 = cc in
-    omega arith
+    cc
 
 -- which keyword an event has, what stands after it, and how it is closed
 abbrev keyword_of : {N K L : Type 0} → Event N K L → Keyword
@@ -163,12 +162,10 @@ module _ {N K L : Type 0} (s : Spelling N K L) (inj : Injective s) where
       (ap add (inj.addend k k' f.2), f.3)
   action_once (set l) (add k) r r' h =
       let f = (short_once Open Open Set Add (Literal InSet) (Number Addend) (s.literal l) (s.addend k) Close Close r r' h).0 in
-      let z : ◌≡◌ {A = ℕ} 0 1 = cc in
-      absurd (omega arith)
+      cc
   action_once (add k) (set l) r r' h =
       let f = (short_once Open Open Add Set (Number Addend) (Literal InSet) (s.addend k) (s.literal l) Close Close r r' h).0 in
-      let z : ◌≡◌ {A = ℕ} 0 1 = cc in
-      absurd (omega arith)
+      cc
 
   mutual
     event_once : (e e' : Event N K L) (o o' : BracketUse) (r r' : List Part) → event s o e ++ r ≡ event s o' e' ++ r' → (e ≡ e') × (r ≡ r')
@@ -266,33 +263,30 @@ Alike {N} (spawn b) y = (c : N) × (y ≡ spawn c)
 Alike emit y = y ≡ emit
 Alike again y = y ≡ again
 
-no_word : (k k' : Keyword) {A : Type 0} → k ≡ k' → (k ≡ k' → ◌≡◌ {A = ℕ} 0 1) → A
-no_word k k' e f = let z = f e in absurd (omega arith)
-
 alike : {N K L : Type 0} (x y : Instr N K L) → word_of x ≡ word_of y → Alike x y
 alike (sync e) (sync f) h = (f, refl)
 alike (spawn b) (spawn c) h = (c, refl)
 alike emit emit h = refl
 alike again again h = refl
-alike (sync e) (spawn c) h = no_word _ _ h (λ h. cc)
-alike (sync e) emit h = no_word _ _ h (λ h. cc)
-alike (sync e) again h = no_word _ _ h (λ h. cc)
-alike (spawn b) (sync f) h = no_word _ _ h (λ h. cc)
-alike (spawn b) emit h = no_word _ _ h (λ h. cc)
-alike (spawn b) again h = no_word _ _ h (λ h. cc)
-alike emit (sync f) h = no_word _ _ h (λ h. cc)
-alike emit (spawn c) h = no_word _ _ h (λ h. cc)
-alike emit again h = no_word _ _ h (λ h. cc)
-alike again (sync f) h = no_word _ _ h (λ h. cc)
-alike again (spawn c) h = no_word _ _ h (λ h. cc)
-alike again emit h = no_word _ _ h (λ h. cc)
+alike (sync e) (spawn c) h = cc
+alike (sync e) emit h = cc
+alike (sync e) again h = cc
+alike (spawn b) (sync f) h = cc
+alike (spawn b) emit h = cc
+alike (spawn b) again h = cc
+alike emit (sync f) h = cc
+alike emit (spawn c) h = cc
+alike emit again h = cc
+alike again (sync f) h = cc
+alike again (spawn c) h = cc
+alike again emit h = cc
 
 -- a keyword of a port is none of a body
 not_task : (k : PortKind) → port_word k ≡ Task → ⊥
-not_task kind.Channel e = no_word _ _ e (λ e. cc)
-not_task kind.Mailbox e = no_word _ _ e (λ e. cc)
-not_task kind.Ivar e = no_word _ _ e (λ e. cc)
-not_task kind.Mvar e = no_word _ _ e (λ e. cc)
+not_task kind.Channel e = cc
+not_task kind.Mailbox e = cc
+not_task kind.Ivar e = cc
+not_task kind.Mvar e = cc
 
 module _ {N K L : Type 0} (s : Spelling N K L) (inj : Injective s) where
   abbrev instr_within : Instr N K L → List Part → List Part
@@ -341,8 +335,8 @@ module _ {N K L : Type 0} (s : Spelling N K L) (inj : Injective s) where
 
   bodies_once : (xs ys : List (Body N K L)) → each (body s) xs ≡ each (body s) ys → xs ≡ ys
   bodies_once [] [] h = refl
-  bodies_once [] (y ∷ ys) h = let z : ◌≡◌ {A = ℕ} 0 1 = cc in absurd (omega arith)
-  bodies_once (x ∷ xs) [] h = let z : ◌≡◌ {A = ℕ} 0 1 = cc in absurd (omega arith)
+  bodies_once [] (y ∷ ys) h = cc
+  bodies_once (x ∷ xs) [] h = cc
   bodies_once (x ∷ xs) (y ∷ ys) h =
       let a = body_once x y _ _ h in
       ap₂ ◌∷◌ a.0 (bodies_once xs ys a.1)

@@ -7,15 +7,11 @@ use Rattle.tokens.specs.declared.token.Token.{Token}
 use Rattle.tokens.specs.declared.token.Token.TheVariants as token
 use Rattle.tokens.specs.Tokens.{Lexeme}
 use Rattle.tokens.specs.Reading.{lexeme, Classified}
-use Rattle.grammar.specs.Grammar.{Part, part, part_lexemes, Spelled}
+use Rattle.grammar.specs.Grammar.{Part, part_lexemes, Spelled}
+use Rattle.grammar.specs.declared.part.Part as code
+use Rattle.grammar.specs.Parts.{told, parts_of}
 use Rattle.grammar.specs.Forms.{with_uses}
 use Rattle.grammar.specs.Stacks.{suits}
-
-pub with_uses_push : (us : List Use) (u : Use) (ls : List Lexeme) (l : Lexeme) → length us ≡ length ls → with_uses (us ++ (u ∷ [])) (ls ++ (l ∷ [])) ≡ with_uses us ls ++ (part u l ∷ [])
-with_uses_push [] u [] l e = refl
-with_uses_push [] u (m ∷ ls) l e = absurd (omega arith)
-with_uses_push (v ∷ us) u [] l e = absurd (omega arith)
-with_uses_push (v ∷ us) u (m ∷ ls) l e = ap (λ x. part v m ∷ x) (with_uses_push us u ls l (omega arith))
 
 pub lexemes_of : (us : List Use) (ls : List Lexeme) → length us ≡ length ls → part_lexemes (with_uses us ls) ≡ ls
 lexemes_of [] [] e = refl
@@ -61,7 +57,7 @@ word_spelled : (u : Use) (i : ℕ) (text : _) → Classified (token.Word i text)
 word_spelled (Bracket u) i text c h = tt
 word_spelled (Head k) i text c h = tt
 word_spelled (Test t) i text c h = tt
-word_spelled (Number u) i text c h = let z : ◌≡◌ {A = ℕ} 0 1 = cc in absurd (omega arith)
+word_spelled (Number u) i text c h = cc
 word_spelled (Literal u) i text c h = c.0
 
 pub suits_spelled : (u : Use) (t : Token) → Classified t → suits u t ≡ true → Spelled u (lexeme t)
@@ -70,6 +66,15 @@ suits_spelled u (token.Close i) c h = tt
 suits_spelled u (token.Integer i text) c h = integer_spelled u i text c
 suits_spelled u (token.Word i text) c h = word_spelled u i text c h
 
-pub parts_of : (ps : List Part) → with_uses (map (λ p. p.purpose) ps) (part_lexemes ps) ≡ ps
-parts_of [] = refl
-parts_of (p ∷ ps) = ap (λ x. p ∷ x) (parts_of ps)
+pub put_together : (ps : List Part) → with_uses (map (λ p. p.purpose) ps) (part_lexemes ps) ≡ ps
+put_together [] = refl
+put_together (p ∷ ps) = ap (λ x. p ∷ x) (put_together ps)
+
+-- the same of the parts of the code
+pub told_lexemes : (ps : List code.Part) → part_lexemes (parts_of ps) ≡ map lexeme (map (λ p. p.token) ps)
+told_lexemes [] = refl
+told_lexemes (p ∷ ps) = ap (λ x. lexeme p.token ∷ x) (told_lexemes ps)
+
+pub told_together : (ps : List code.Part) → with_uses (map (λ p. p.purpose) ps) (map lexeme (map (λ p. p.token) ps)) ≡ parts_of ps
+told_together [] = refl
+told_together (p ∷ ps) = ap (λ x. told p ∷ x) (told_together ps)

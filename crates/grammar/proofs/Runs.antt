@@ -1,5 +1,5 @@
 -- The machine over several tokens, each with its use.
-use Rattle.std.proofs.Common.{◌≡◌, ℕ, List, [], ◌∷◌, ◌++◌, Some, sym, refl, ap, ◌∙◌, subst, append-nil, arith}
+use Rattle.std.proofs.Common.{◌≡◌, List, [], ◌∷◌, ◌++◌, Some, sym, refl, ap, ◌∙◌, subst, append-nil}
 use Rattle.grammar.specs.declared.items.Item.{Item}
 use Rattle.tokens.specs.Tokens.{Lexeme}
 use Rattle.grammar.specs.Grammar.{Part, part_lexemes}
@@ -38,7 +38,7 @@ pub record Left (s₁ : List Item) (ps qs : List Part) (s₂ : List Item) (rest 
 -- the way is determined by the tokens
 pub follow : {s s₁ s₂ : List Item} {ps qs : List Part} → Run s ps s₁ → Run s qs s₂ → (rest : List Lexeme) → part_lexemes qs ≡ part_lexemes ps ++ rest → Left s₁ ps qs s₂ rest
 follow stop r rest e = record { parts = _; joined = refl; lexemes = e; ran = r }
-follow (read f r) stop rest e = let z : ◌≡◌ {A = ℕ} 0 1 = cc in absurd (omega arith)
+follow (read f r) stop rest e = cc
 follow (read {s = s} {s₁ = s₁} {p = p} {ps = ps} f r) (read {s₁ = s₂} {p = q} {ps = qs} g r') rest e =
     let same_lexeme : q.lexeme ≡ p.lexeme = cc in
     let same_rest : part_lexemes qs ≡ part_lexemes ps ++ rest = cc in
@@ -53,7 +53,7 @@ follow (read {s = s} {s₁ = s₁} {p = p} {ps = ps} f r) (read {s₁ = s₂} {p
 
 stopped : {s s₁ : List Item} {ps : List Part} → Run s ps s₁ → part_lexemes ps ≡ [] → (ps ≡ []) × (s ≡ s₁)
 stopped stop e = (refl, refl)
-stopped (read f run) e = let z : ◌≡◌ {A = ℕ} 0 1 = cc in absurd (omega arith)
+stopped (read f run) e = cc
 
 -- and so is where it ends
 pub same_end : {s s₁ s₂ : List Item} {ps qs : List Part} → Run s ps s₁ → Run s qs s₂ → part_lexemes qs ≡ part_lexemes ps → (qs ≡ ps) × (s₁ ≡ s₂)

@@ -2,7 +2,7 @@
 use Rattle.std.proofs.Common.{◌≡◌, ℕ, Bool, true, false, cond, List, [], ◌∷◌, ◌++◌, Some, None, Option, sym, refl, ap, ◌∙◌, subst, append_assoc, append-nil}
 use mathlib.Core.List.{tail}
 use Rattle.std.specs.Str.{bytes_eq}
-use Rattle.std.specs.List.{AllByRecursion}
+use Rattle.std.specs.List.{AllByRecursion, find}
 use Rattle.std.proofs.lemmas.Slice.Eq.{bytes_eq-Decides}
 use Rattle.message.specs.declared.kind.Sign.{Sign}
 use Rattle.grammar.specs.declared.words.PortKind.{PortKind}
@@ -17,7 +17,7 @@ use Rattle.grammar.specs.declared.items.Item.TheVariants.{Top, Bodies, Instrs, E
 use Rattle.tokens.specs.Tokens.{Lexeme, opening, closing, atom}
 use Rattle.grammar.specs.Grammar as g
 use Rattle.grammar.specs.Grammar.{Part, part, Raw, as_written, number, spelled, test_word}
-use Rattle.grammar.specs.Machine.{Read, begins, find, keyword, tested, signs, after, as_head, as_test, at_open, at_close, at_atom, expand, onto, step}
+use Rattle.grammar.specs.Machine.{Read, begins, keyword, tested, signs, after, as_head, as_test, at_open, at_close, at_atom, expand, onto, step}
 use Rattle.grammar.proofs.Runs.{Run, stop, read}
 use Rattle.grammar.proofs.Values.{Tree, text, Value, print, Values, prints, first_part, last_part, parted, opens, opened_event, opened_instr, opened_action, opened_script}
 
@@ -30,10 +30,9 @@ found_by : {A : Type 0} (f : A → List ℕ) (P : A → Type 0) (w : List ℕ) (
 found_by f P w x o p h true e = (e refl, p)
 found_by f P w x o p h false e = h
 
-found : {A : Type 0} (f : A → List ℕ) (P : A → Type 0) (xs : List A) (w : List ℕ) → AllByRecursion P xs → Found f P w (find f xs w)
-unfolding find
+found : {A : Type 0} (f : A → List ℕ) (P : A → Type 0) (xs : List A) (w : List ℕ) → AllByRecursion P xs → Found f P w (find (λ x. bytes_eq w (f x)) xs)
 found f P [] w ps = tt
-found f P (x ∷ xs) w ps = found_by f P w x (find f xs w) ps.0 (found f P xs w ps.1) (bytes_eq w (f x)) (bytes_eq-Decides w (f x)).0
+found f P (x ∷ xs) w ps = found_by f P w x (find (λ x. bytes_eq w (f x)) xs) ps.0 (found f P xs w ps.1) (bytes_eq w (f x)) (bytes_eq-Decides w (f x)).0
 
 -- the values of what follows a keyword make a value of its form
 abbrev Built : Role → Keyword → Type 0

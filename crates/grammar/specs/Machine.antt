@@ -1,5 +1,6 @@
 -- Scripts read by a machine: a stack of what is expected of the tokens to come, and a step for each token.
-use Rattle.std.specs.Prelude.{ℕ, cond, List, [], ◌∷◌, ◌++◌, Some, None, Option}
+use Rattle.std.specs.Prelude.{ℕ, List, [], ◌∷◌, ◌++◌, Some, None, Option}
+use Rattle.std.specs.List.{find}
 use Rattle.std.specs.Str.{bytes_eq}
 use Rattle.message.specs.declared.kind.Sign.{Sign}
 use Rattle.message.specs.declared.kind.Sign.TheVariants.{Neg, Zero, Pos}
@@ -27,18 +28,14 @@ begins role.Event = Never ∷ Always ∷ Send ∷ Recv ∷ Timeout ∷ Nack ∷ 
 begins role.Action = Set ∷ Add ∷ []
 
 -- the first that is spelled so
-unfoldable pub find : {A : Type 0} → (A → List ℕ) → List A → List ℕ → Option A
-find f [] w = None
-find f (x ∷ xs) w = cond (bytes_eq w (f x)) (Some x) (find f xs w)
-
 unfoldable pub keyword : Role → List ℕ → Option Keyword
-keyword r w = find spelled (begins r) w
+keyword r w = find (λ k. bytes_eq w (spelled k)) (begins r)
 
 abbrev pub signs : List Sign
 signs = Neg ∷ Zero ∷ Pos ∷ []
 
 unfoldable pub tested : List ℕ → Option Sign
-tested w = find test_word signs w
+tested w = find (λ t. bytes_eq w (test_word t)) signs
 
 -- what follows a keyword
 abbrev pub after : Keyword → List Item

@@ -10,9 +10,12 @@ use Rattle.tokens.specs.declared.token.Token.TheVariants as token
 use Rattle.tokens.specs.Reading.{lexeme}
 use Rattle.grammar.specs.Machine.{Read, step}
 
+abbrev pub reading : Reading → Read
+reading r = (r.purpose, reverse r.next.now)
+
 abbrev pub shown : Option Reading → Option Read
 shown None = None
-shown (Some r) = Some (r.purpose, reverse r.next.now)
+shown (Some r) = Some (reading r)
 
 -- a number is an integer; what else a use asks of a token, its place in the grammar does
 abbrev pub suits_word : Use → Bool

@@ -1,17 +1,18 @@
-ghost use Rattle.std.specs.Prelude.{◌≡◌, map, IfOk};
+ghost use Rattle.std.specs.Prelude.{◌≡◌, IfOk};
 ghost use Rattle.std.specs.List.{AllByRecursion};
 ghost use Rattle.grammar.specs.declared.form.FormFault.TheVariants.{Memory};
 ghost use Rattle.grammar.specs.Stacks.{Stepped, suits, ended};
 ghost use Rattle.grammar.specs.Verdicts.{FormVerdict};
-ghost use Rattle.tokens.specs.Reading.{lexeme, Classified};
+ghost use Rattle.tokens.specs.Reading.{Classified};
 
 use crate::items::{Item, at_token};
+use crate::part::Part;
 use crate::words::Use;
 use std::alloc::{AllocError, AllocFailed, Global};
 use tokens::token::Token;
 
 // Why tokens are no script.
-#[derive(Clone, Copy, Debug, PartialEq)]
+#[derive(Clone, Copy, Debug, PartialEq, Eq)]
 pub enum FormFault {
     // The first token with which no script goes on, or their number where tokens are missing.
     Misfit { token: usize },
@@ -38,10 +39,7 @@ impl<T: Drop> From<AllocFailed<T>> for FormFault {
 fn is_fit(purpose: Use, token: Token<'_>) -> bool
     ensures { result ≡ suits purpose token.entry }
 {
-    match (purpose, token) {
-        (Use::Number(_), Token::Word { .. }) => false,
-        _ => true,
-    }
+    !matches!((purpose, token), (Use::Number(_), Token::Word { .. }))
 }
 
 // Reads a token: its use, or None where no script goes on with it.
@@ -68,9 +66,9 @@ fn is_end(stack: &[Item]) -> bool
     matches!(stack, [Item::Bodies])
 }
 
-// What each token of a script is there for, or where they stop being those of a script.
-pub fn uses(heap: Global, tokens: &[Token<'_>]) -> Result<Vec<Use>, FormFault>
-    ensures { AllByRecursion Classified tokens.now → FormVerdict (map lexeme tokens.now) result }
+// The parts of a script, or where the tokens stop being those of a script.
+pub fn parts<'a>(heap: Global, tokens: &[Token<'a>]) -> Result<Vec<Part<'a>>, FormFault>
+    ensures { AllByRecursion Classified tokens.now → FormVerdict tokens.now result }
 {
     let mut stack = Vec::new(heap);
     stack.push(Item::Top)?;
@@ -79,7 +77,10 @@ pub fn uses(heap: Global, tokens: &[Token<'_>]) -> Result<Vec<Use>, FormFault>
         let Some(purpose) = step_on(&mut stack, *token)? else {
             return Err(FormFault::Misfit { token: k });
         };
-        found.push(purpose)?;
+        found.push(Part {
+            purpose,
+            token: *token,
+        })?;
     }
     if is_end(&stack) {
         Ok(found)

@@ -1,8 +1,8 @@
-ghost use Rattle.std.specs.Prelude.{◌≡◌, reverse, Some};
+ghost use Rattle.std.specs.Prelude.{◌≡◌, reverse};
 ghost use Rattle.grammar.specs.declared.words.Use.TheVariants.{Bracket};
 ghost use Rattle.grammar.specs.Grammar.{spelled, test_word};
 ghost use Rattle.grammar.specs.Machine.{begins, keyword, tested, as_head, as_test, after, at_open, at_close, at_atom, expand};
-ghost use Rattle.grammar.specs.Stacks.{shown};
+ghost use Rattle.grammar.specs.Stacks.{reading, shown};
 ghost use Rattle.tokens.specs.Reading.{lexeme};
 
 use crate::words::{BracketUse, Keyword, LiteralUse, NumberUse, PortKind, Use};
@@ -110,15 +110,11 @@ fn spelling(k: Keyword) -> &'static [u8]
 }
 
 // The keyword of the role that is spelled so.
+#[tactic(auto, unfolding(crate::specs::Machine::keyword))]
 fn keyword_of(role: Role, text: &[u8]) -> Option<Keyword>
     ensures { result ≡ keyword role text.now }
 {
-    for k in heads(role) {
-        if text == spelling(*k) {
-            return Some(*k);
-        }
-    }
-    None
+    heads(role).iter().copied().find(|k| text == spelling(*k))
 }
 
 fn test_spelling(sign: Sign) -> &'static [u8]
@@ -131,15 +127,13 @@ fn test_spelling(sign: Sign) -> &'static [u8]
     }
 }
 
+#[tactic(auto, unfolding(crate::specs::Machine::tested))]
 fn sign_of(text: &[u8]) -> Option<Sign>
     ensures { result ≡ tested text.now }
 {
-    for sign in [Sign::Neg, Sign::Zero, Sign::Pos] {
-        if text == test_spelling(sign) {
-            return Some(sign);
-        }
-    }
-    None
+    [Sign::Neg, Sign::Zero, Sign::Pos]
+        .into_iter()
+        .find(|sign| text == test_spelling(*sign))
 }
 
 const CLOSE: Item = Item::Shut(BracketUse::Close);
@@ -197,68 +191,62 @@ fn followers(k: Keyword) -> &'static [Item]
     }
 }
 
-fn read(purpose: Use, next: &'static [Item]) -> Option<Reading>
-    ensures { shown result ≡ Some (purpose, reverse next.now) }
+fn bracket(u: BracketUse, next: &'static [Item]) -> Reading
+    ensures { reading result ≡ (Bracket u, reverse next.now) }
 {
-    Some(Reading { purpose, next })
-}
-
-fn bracket(u: BracketUse, next: &'static [Item]) -> Option<Reading>
-    ensures { shown result ≡ Some (Bracket u, reverse next.now) }
-{
-    read(Use::Bracket(u), next)
+    Reading {
+        purpose: Use::Bracket(u),
+        next,
+    }
 }
 
 // An opening bracket where the item is expected; None where it does not fit.
 fn at_open(item: Item) -> Option<Reading>
     ensures { shown result ≡ at_open item }
 {
-    match item {
+    Some(match item {
         Item::Top => bracket(BracketUse::Open, &[Item::Head(Role::Top)]),
         Item::Bodies => bracket(BracketUse::Open, &[Item::Head(Role::Body)]),
         Item::Instrs => bracket(BracketUse::Open, &[Item::Instrs, Item::Head(Role::Instr)]),
         Item::Events => bracket(BracketUse::Open, &[Item::Events, Item::Head(Role::Event)]),
         Item::Event(u) => bracket(u, &[Item::Head(Role::Event)]),
         Item::Action => bracket(BracketUse::Open, &[Item::Head(Role::Action)]),
-        _ => None,
-    }
+        _ => return None,
+    })
 }
 
 fn at_close(item: Item) -> Option<Reading>
     ensures { shown result ≡ at_close item }
 {
-    match item {
+    Some(match item {
         Item::Instrs => bracket(BracketUse::CloseTask, &[]),
         Item::Events => bracket(BracketUse::Close, &[]),
         Item::Shut(u) => bracket(u, &[]),
-        _ => None,
-    }
+        _ => return None,
+    })
 }
 
 fn at_head(role: Role, text: &[u8]) -> Option<Reading>
     ensures { shown result ≡ as_head (keyword role text.now) }
 {
     let k = keyword_of(role, text)?;
-    read(Use::Head(k), followers(k))
-}
-
-fn at_test(text: &[u8]) -> Option<Reading>
-    ensures { shown result ≡ as_test (tested text.now) }
-{
-    let sign = sign_of(text)?;
-    read(Use::Test(sign), &[])
+    Some(Reading {
+        purpose: Use::Head(k),
+        next: followers(k),
+    })
 }
 
 fn at_atom(item: Item, text: &[u8]) -> Option<Reading>
     ensures { shown result ≡ at_atom item text.now }
 {
-    match item {
-        Item::Head(role) => at_head(role, text),
-        Item::Test => at_test(text),
-        Item::Number(u) => read(Use::Number(u), &[]),
-        Item::Literal(u) => read(Use::Literal(u), &[]),
-        _ => None,
-    }
+    let purpose = match item {
+        Item::Head(role) => return at_head(role, text),
+        Item::Test => Use::Test(sign_of(text)?),
+        Item::Number(u) => Use::Number(u),
+        Item::Literal(u) => Use::Literal(u),
+        _ => return None,
+    };
+    Some(Reading { purpose, next: &[] })
 }
 
 // A token there. Whether a number is an integer is not asked here.

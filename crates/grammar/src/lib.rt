@@ -4,4 +4,5 @@
 pub mod form;
 mod items;
 pub mod laws;
+pub mod part;
 pub mod words;

@@ -1,7 +1,7 @@
 use message::kind::Sign;
 
 // The kinds of ports that a script declares.
-#[derive(Clone, Copy, Debug, PartialEq)]
+#[derive(Clone, Copy, Debug, PartialEq, Eq)]
 pub enum PortKind {
     Channel,
     Mailbox,
@@ -10,7 +10,7 @@ pub enum PortKind {
 }
 
 // The words that begin a form.
-#[derive(Clone, Copy, Debug, PartialEq)]
+#[derive(Clone, Copy, Debug, PartialEq, Eq)]
 pub enum Keyword {
     Channel,
     Mailbox,
@@ -36,7 +36,7 @@ pub enum Keyword {
 }
 
 // What a bracket opens or closes, as far as it matters.
-#[derive(Clone, Copy, Debug, PartialEq)]
+#[derive(Clone, Copy, Debug, PartialEq, Eq)]
 pub enum BracketUse {
     // Any form but the second arm of a guard.
     Open,
@@ -50,7 +50,7 @@ pub enum BracketUse {
 }
 
 // What a number says.
-#[derive(Clone, Copy, Debug, PartialEq)]
+#[derive(Clone, Copy, Debug, PartialEq, Eq)]
 pub enum NumberUse {
     // The port or the body that is declared.
     NewPort(PortKind),
@@ -67,14 +67,14 @@ pub enum NumberUse {
 }
 
 // Where a literal stands.
-#[derive(Clone, Copy, Debug, PartialEq)]
+#[derive(Clone, Copy, Debug, PartialEq, Eq)]
 pub enum LiteralUse {
     InAlways,
     InSet,
 }
 
 // What a token of a script is there for.
-#[derive(Clone, Copy, Debug, PartialEq)]
+#[derive(Clone, Copy, Debug, PartialEq, Eq)]
 pub enum Use {
     Bracket(BracketUse),
     // The word after an opening bracket.

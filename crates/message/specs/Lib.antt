@@ -8,5 +8,4 @@ pub mod Tickets
 pub mod Ticketing
 pub mod Plains
 pub mod Joining
-pub mod Fronts
 pub mod Weighing

@@ -1,14 +1,13 @@
--- Tickets are two weights with a slash between them.
-use Rattle.std.specs.Prelude.{◌≡◌, ℕ, ◌≤◌, List, ◌∷◌, length, take, Some, None, Option, ◌≢◌}
+-- A ticket's literal tells which ticket it is, and is plain and short.
+use Rattle.std.specs.Prelude.{◌≡◌, ◌≤◌, ◌∷◌, length, ◌≢◌}
 use Rattle.std.proofs.Common.{ap, arith, length-append}
 use Rattle.message.specs.declared.weight.Weight.{Weight}
 use Rattle.message.specs.declared.ticket.Ticket.{Ticket}
-use Rattle.message.specs.declared.literal.Lead.{Lead}
 use Rattle.message.specs.declared.joined.Joined.{Joined}
 use Rattle.message.specs.Weights.{weight_literal}
 use Rattle.message.specs.Tickets.{ticket_parts, ticket_literal}
-use Rattle.message.specs.Literals.{Plain, Longest, Found, Leads, longest_literal}
-use Rattle.message.specs.Joins.{joined, Free}
+use Rattle.message.specs.Literals.{Plain, longest_literal}
+use Rattle.message.specs.Joins.{Free}
 use Rattle.message.specs.Plains.{signed_all, signed_plain, signed_short, plain_mark, free_from_all}
 use Rattle.message.specs.Joining.{joined_one, joined_plain}
 use Rattle.message.specs.Weighing.{weight_one}
@@ -16,7 +15,7 @@ use Rattle.message.specs.Weighing.{weight_one}
 pub weight_free : (w : Weight) → Free 47 (weight_literal w)
 weight_free w = free_from_all 47 (weight_literal w) (signed_all (λ x. x ≢ 47) (λ e. omega arith) (λ d lo hi e. omega arith) w.value w.fits)
 
-abbrev ticket : Joined Weight Weight → Ticket
+abbrev pub ticket : Joined Weight Weight → Ticket
 ticket j = record { gross = j.left; tare = j.right }
 
 pub ticket_one : (a b : Ticket) → ticket_literal a ≡ ticket_literal b → a ≡ b
@@ -30,23 +29,3 @@ ticket_plain t =
 pub ticket_short : (t : Ticket) → length (ticket_literal t) ≤ longest_literal
 ticket_short t =
     omega (arith, length-append (weight_literal t.gross) (47 ∷ weight_literal t.tare), signed_short t.gross.value t.gross.fits, signed_short t.tare.value t.tare.fits)
-
--- how far bytes agree with both parts is how far they agree with the ticket
-
-as_longest : (s : List ℕ) (k : ℕ) → Longest (joined weight_literal 47 weight_literal) s k → Longest ticket_literal s k
-as_longest s k l = record {
-  within = l.within;
-  begins = (ticket l.begins.0, l.begins.1, l.begins.2);
-  most = λ j le w. l.most j le (ticket_parts w.0, w.1, w.2);
-}
-
-abbrev pub ticket_of : Option (Joined Weight Weight) → Option Ticket
-ticket_of (Some j) = Some (ticket j)
-ticket_of None = None
-
-as_found : (s : List ℕ) (o : Option (Joined Weight Weight)) → Found (joined weight_literal 47 weight_literal) s o → Found ticket_literal s (ticket_of o)
-as_found s (Some j) found = found
-as_found s None found = λ t e. found (ticket_parts t) e
-
-pub as_ticket : (s : List ℕ) (l : Lead (Joined Weight Weight)) → Leads (joined weight_literal 47 weight_literal) s l → Leads ticket_literal s (record { length = l.length; value = ticket_of l.value })
-as_ticket s l h = record { longest = as_longest s l.length h.longest; found = as_found (take l.length s) l.value h.found }

@@ -8,7 +8,7 @@ use crate::literal::{Lead, Literal};
 use crate::page::{PageFull, write_bytes};
 
 // Two values that are written one after the other, with a byte between them.
-#[derive(Clone, Copy)]
+#[derive(Clone, Copy, Debug, PartialEq, Eq)]
 pub struct Joined<A, B> {
     pub left: A,
     pub right: B,
@@ -41,28 +41,16 @@ impl<A: Literal, B: Message> Joined<A, B> {
         ensures { Leads (literals A.Literal.literal separator B.Literal.literal) s.now result }
     {
         let first = A::lead(s);
-        let n = first.length;
-        let Some(left) = first.value else {
-            return Lead {
-                length: n,
-                value: None,
-            };
-        };
-        if n >= s.len() || s[n] != separator {
-            return Lead {
-                length: n,
-                value: None,
-            };
-        }
-        let second = B::lead(&s[n + 1..]);
-        let length = n + 1 + second.length;
-        match second.value {
-            Some(right) => Lead {
-                length,
-                value: Some(Joined { left, right }),
-            },
-            None => Lead {
-                length,
+        match (first.value, s[first.length..].strip_prefix(&[separator])) {
+            (Some(left), Some(rest)) => {
+                let second = B::lead(rest);
+                Lead {
+                    length: first.length + 1 + second.length,
+                    value: second.value.map(|right| Joined { left, right }),
+                }
+            }
+            _ => Lead {
+                length: first.length,
                 value: None,
             },
         }

@@ -3,26 +3,25 @@ ghost use Rattle.message.specs.declared.kind.Sign.{Sign};
 ghost use Rattle.message.specs.Signs.{sign_of};
 
 use crate::literal::Literal;
+use std::cmp::Ordering;
 
 // What a guard tests.
-#[derive(Clone, Copy, Debug, PartialEq)]
+#[derive(Clone, Copy, Debug, PartialEq, Eq)]
 pub enum Sign {
     Neg,
     Zero,
     Pos,
 }
 
-impl Sign {
-    // The sign of a number.
-    pub fn of(n: i64) -> Sign
-        ensures { result ≡ sign_of n }
-    {
-        if n < 0 {
-            Sign::Neg
-        } else if n == 0 {
-            Sign::Zero
-        } else {
-            Sign::Pos
+// The sign of a number.
+impl From<i64> for Sign {
+    ghost from_gives = { λ n s. s ≡ sign_of n };
+
+    fn from(n: i64) -> Sign {
+        match n.cmp(&0) {
+            Ordering::Less => Sign::Neg,
+            Ordering::Equal => Sign::Zero,
+            Ordering::Greater => Sign::Pos,
         }
     }
 }

@@ -9,19 +9,30 @@ use crate::page::PageFull;
 use crate::weight::Weight;
 
 // A gross weight and a tare.
-#[derive(Clone, Copy, Debug)]
+#[derive(Clone, Copy, Debug, PartialEq, Eq)]
 pub struct Ticket {
     pub gross: Weight,
     pub tare: Weight,
 }
 
-impl Ticket {
-    fn parts(self) -> Joined<Weight, Weight>
-        ensures { result ≡ ticket_parts self }
-    {
+impl From<Ticket> for Joined<Weight, Weight> {
+    ghost from_gives = { λ t j. j ≡ ticket_parts t };
+
+    fn from(ticket: Ticket) -> Joined<Weight, Weight> {
         Joined {
-            left: self.gross,
-            right: self.tare,
+            left: ticket.gross,
+            right: ticket.tare,
+        }
+    }
+}
+
+impl From<Joined<Weight, Weight>> for Ticket {
+    ghost from_gives = { λ j t. j ≡ ticket_parts t };
+
+    fn from(parts: Joined<Weight, Weight>) -> Ticket {
+        Ticket {
+            gross: parts.left,
+            tare: parts.right,
         }
     }
 }
@@ -36,28 +47,18 @@ impl Literal for Ticket {
     ghost short = { λ t. ticket_short t };
 
     fn room_after(self, room: usize) -> Option<usize> {
-        self.parts().room_after(room)
+        Joined::from(self).room_after(room)
     }
 
     fn write(self, page: &mut [u8], at: usize) -> Result<usize, PageFull> {
-        self.parts().write(b'/', page, at)
+        Joined::from(self).write(b'/', page, at)
     }
 
     fn lead(s: &[u8]) -> Lead<Ticket> {
-        let both = Joined::<Weight, Weight>::lead(b'/', s);
-        let length = both.length;
-        match both.value {
-            Some(parts) => Lead {
-                length,
-                value: Some(Ticket {
-                    gross: parts.left,
-                    tare: parts.right,
-                }),
-            },
-            None => Lead {
-                length,
-                value: None,
-            },
+        let Lead { length, value } = Joined::<Weight, Weight>::lead(b'/', s);
+        Lead {
+            length,
+            value: value.map(Ticket::from),
         }
     }
 }
@@ -78,12 +79,12 @@ impl Message for Ticket {
 
     fn add(self, k: i32) -> Self {
         Ticket {
-            gross: self.gross,
             tare: self.tare.add(k),
+            ..self
         }
     }
 
     fn sign(self) -> Sign {
-        Sign::of(i64::from(self.gross.value) - i64::from(self.tare.value))
+        Sign::from(i64::from(self.gross.value) - i64::from(self.tare.value))
     }
 }

@@ -1,4 +1,4 @@
-ghost use Rattle.std.specs.Prelude.{◌≡◌, ◌<◌, length, pos, ◌+ℤ◌, slice_index};
+ghost use Rattle.std.specs.Prelude.{◌≡◌, ◌∷◌, length};
 ghost use Rattle.message.specs.Literals.{Leads};
 ghost use Rattle.message.specs.Signs.{sign_of};
 ghost use Rattle.message.specs.Weights.{weight_blank, weight_literal, weight_plus};
@@ -12,22 +12,20 @@ use crate::literal::{Lead, Literal, LiteralFault};
 use crate::page::{PageFull, has_room, write_bytes};
 use crate::weight::Weight;
 
-// How far bytes that begin with a minus agree with a weight.
-fn leading_negative(s: &[u8]) -> Lead<Weight>
-    requires { (0 < length s.now) × (slice_index s.now 0 ≡ 45) }
-    ensures { Leads weight_literal s.now result }
+// How far a minus and the bytes after it agree with a weight.
+fn leading_negative(rest: &[u8]) -> Lead<Weight>
+    ensures { Leads weight_literal (45 ∷ rest.now) result }
 {
-    let (k, n) = leading_number(&s[1..], 2147483648);
-    if n == 0 {
-        return Lead {
+    let digits = leading_number(rest, i32::MIN.unsigned_abs());
+    match digits.value {
+        Some(n) if n > 0 => Lead {
+            length: digits.length + 1,
+            value: 0i32.checked_sub_unsigned(n).map(|value| Weight { value }),
+        },
+        _ => Lead {
             length: 1,
             value: None,
-        };
-    }
-    let less = (n - 1) as i32;
-    Lead {
-        length: k + 1,
-        value: Some(Weight { value: -1 - less }),
+        },
     }
 }
 
@@ -67,19 +65,15 @@ impl Literal for Weight {
     }
 
     fn lead(s: &[u8]) -> Lead<Weight> {
-        if s.len() > 0 && s[0] == b'-' {
-            return leading_negative(s);
-        }
-        let (length, n) = leading_number(s, 2147483647);
-        if length == 0 {
-            return Lead {
-                length,
-                value: None,
-            };
-        }
-        Lead {
-            length,
-            value: Some(Weight { value: n as i32 }),
+        match s.strip_prefix(b"-") {
+            Some(rest) => leading_negative(rest),
+            None => {
+                let Lead { length, value } = leading_number(s, i32::MAX.unsigned_abs());
+                Lead {
+                    length,
+                    value: value.map(|n| Weight { value: n as i32 }),
+                }
+            }
         }
     }
 }
@@ -102,6 +96,6 @@ impl Message for Weight {
     }
 
     fn sign(self) -> Sign {
-        Sign::of(i64::from(self.value))
+        Sign::from(i64::from(self.value))
     }
 }

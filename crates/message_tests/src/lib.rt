@@ -3,9 +3,9 @@
 // Example messages: what is read, computed and written.
 #[cfg(test)]
 mod messages {
-    use message::decimal::{count_digits, leading_number, write_number};
+    use message::decimal::{count_digits, leading_number, read_number, write_number};
     use message::kind::{Message, Sign};
-    use message::literal::Literal;
+    use message::literal::{Lead, Literal};
     use message::page::{PageFull, has_room, write_bytes};
     use message::ticket::Ticket;
     use message::weight::Weight;
@@ -24,18 +24,16 @@ mod messages {
 
     // What the bytes write as a weight, or the place of the fault.
     fn read_weight(text: &[u8]) -> Result<i32, usize> {
-        match Weight::read(text) {
-            Ok(w) => Ok(w.value),
-            Err(fault) => Err(fault.at),
-        }
+        Weight::read(text)
+            .map(|w| w.value)
+            .map_err(|fault| fault.at)
     }
 
     // What the bytes write as a ticket, gross and tare, or the place of the fault.
     fn read_ticket(text: &[u8]) -> Result<(i32, i32), usize> {
-        match Ticket::read(text) {
-            Ok(t) => Ok((t.gross.value, t.tare.value)),
-            Err(fault) => Err(fault.at),
-        }
+        Ticket::read(text)
+            .map(|t| (t.gross.value, t.tare.value))
+            .map_err(|fault| fault.at)
     }
 
     #[test]
@@ -106,13 +104,13 @@ mod messages {
         assert_eq!(rt; ticket(MIN, MIN).sign(), Sign::Zero);
         assert_eq!(rt; ticket(MAX, MAX).sign(), Sign::Zero);
         assert_eq!(rt; ticket(5, 6).sign(), Sign::Neg);
-        assert_eq!(rt; Sign::of(i64::MIN), Sign::Neg);
-        assert_eq!(rt; Sign::of(i64::MAX), Sign::Pos);
+        assert_eq!(rt; Sign::from(i64::MIN), Sign::Neg);
+        assert_eq!(rt; Sign::from(i64::MAX), Sign::Pos);
     }
 
     #[test]
     fn sums(rt: HostRuntime) {
-        assert_eq!(rt; Weight::blank().value, 0);
+        assert_eq!(rt; Weight::blank(), Weight { value: 0 });
         let sums = [
             (5, -7, -2),
             (MAX - 1, 1, MAX),
@@ -124,12 +122,10 @@ mod messages {
             (MIN, MAX, -1),
         ];
         for (value, k, want) in sums {
-            assert_eq!(rt; Weight { value }.add(k).value, want);
-            let sum = ticket(9, value).add(k);
-            assert_eq!(rt; (sum.gross.value, sum.tare.value), (9, want));
+            assert_eq!(rt; Weight { value }.add(k), Weight { value: want });
+            assert_eq!(rt; ticket(9, value).add(k), ticket(9, want));
         }
-        let blank = Ticket::blank();
-        assert_eq!(rt; (blank.gross.value, blank.tare.value), (0, 0));
+        assert_eq!(rt; Ticket::blank(), ticket(0, 0));
     }
 
     #[test]
@@ -235,26 +231,44 @@ mod messages {
 
     #[test]
     fn leading_numbers(rt: HostRuntime) {
-        let fronts: [(&[u8], u32, (usize, u32)); 13] = [
-            (b"", 99, (0, 0)),
-            (b"x1", 99, (0, 0)),
-            (b"0", 0, (1, 0)),
-            (b"00", 0, (1, 0)),
-            (b"1", 0, (0, 0)),
-            (b"9", 9, (1, 9)),
-            (b"10", 9, (1, 1)),
-            (b"99", 99, (2, 99)),
-            (b"100", 99, (2, 10)),
-            (b"012", 99, (1, 0)),
-            (b"12/3", 99, (2, 12)),
-            (b"4294967295", 4294967295, (10, 4294967295)),
-            (b"4294967296", 4294967295, (9, 429496729)),
+        let fronts: [(&[u8], u32, usize, Option<u32>); 13] = [
+            (b"", 99, 0, None),
+            (b"x1", 99, 0, None),
+            (b"0", 0, 1, Some(0)),
+            (b"00", 0, 1, Some(0)),
+            (b"1", 0, 0, None),
+            (b"9", 9, 1, Some(9)),
+            (b"10", 9, 1, Some(1)),
+            (b"99", 99, 2, Some(99)),
+            (b"100", 99, 2, Some(10)),
+            (b"012", 99, 1, Some(0)),
+            (b"12/3", 99, 2, Some(12)),
+            (b"4294967295", 4294967295, 10, Some(4294967295)),
+            (b"4294967296", 4294967295, 9, Some(429496729)),
         ];
-        for (text, max, want) in fronts {
-            assert_eq!(rt; leading_number(text, max), want);
+        for (text, max, length, value) in fronts {
+            assert_eq!(rt; leading_number(text, max), Lead { length, value });
         }
         for (n, digits) in [(0, 1), (9, 1), (10, 2), (99, 2), (100, 3), (4294967295, 10)] {
             assert_eq!(rt; count_digits(n), digits);
+        }
+    }
+
+    #[test]
+    fn whole_numbers(rt: HostRuntime) {
+        let numbers: [(&[u8], u32, Option<u32>); 9] = [
+            (b"", 99, None),
+            (b"0", 0, Some(0)),
+            (b"1", 0, None),
+            (b"99", 99, Some(99)),
+            (b"100", 99, None),
+            (b"012", 99, None),
+            (b"12/3", 99, None),
+            (b"4294967295", 4294967295, Some(4294967295)),
+            (b"4294967296", 4294967295, None),
+        ];
+        for (text, max, want) in numbers {
+            assert_eq!(rt; read_number(text, max), want);
         }
     }
 }

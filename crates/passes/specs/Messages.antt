@@ -3,7 +3,8 @@ use Rattle.std.specs.Prelude.{◌≡◌, ℕ, List}
 use Rattle.grammar.specs.declared.words.Use.{Use}
 use Rattle.grammar.specs.declared.words.Use.TheVariants.{Bracket, Head, Test, Number, Literal}
 use Rattle.grammar.specs.Grammar.{Part}
-use Rattle.passes.specs.Parts.{nth, bytes}
+use Rattle.grammar.specs.Parts.{bytes}
+use Rattle.passes.specs.Parts.{nth}
 
 abbrev pub MessageFor : {M : Type 0} → (M → List ℕ) → Use → List ℕ → Type 0
 MessageFor {M} literal (Literal u) bs = (m : M) × (bs ≡ literal m)

@@ -5,7 +5,8 @@ use Rattle.grammar.specs.declared.words.Use.TheVariants.{Bracket, Head, Test, Nu
 use Rattle.grammar.specs.declared.words.NumberUse.{NumberUse}
 use Rattle.grammar.specs.declared.words.NumberUse.TheVariants.{NewPort, NewBody, SendPort, RecvPort, SpawnBody, NackBody, Delay, Addend}
 use Rattle.grammar.specs.Grammar.{Part}
-use Rattle.passes.specs.Parts.{nth, bytes}
+use Rattle.grammar.specs.Parts.{bytes}
+use Rattle.passes.specs.Parts.{nth}
 
 -- a port or a body by its number, which is spelled in one way only
 pub data Name : Type 0 where

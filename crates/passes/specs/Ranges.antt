@@ -1,13 +1,15 @@
 -- The ranges of a script's numbers.
-use Rattle.std.specs.Prelude.{◌≡◌, ℕ, ◌<◌, ◌≤◌, List, ℤ, Some, None, decimal, Option}
+use Rattle.std.specs.Prelude.{◌≡◌, ℕ, ◌<◌, ◌≤◌, List, ℤ, decimal}
 use Rattle.std.specs.Int.Signed.{mag}
 use Rattle.std.specs.Fmt.{signed_decimal}
+use Rattle.tokens.specs.Places.{Nowhere}
 use Rattle.grammar.specs.declared.words.Use.{Use}
 use Rattle.grammar.specs.declared.words.Use.TheVariants.{Bracket, Head, Test, Number, Literal}
 use Rattle.grammar.specs.declared.words.NumberUse.{NumberUse}
 use Rattle.grammar.specs.declared.words.NumberUse.TheVariants.{NewPort, NewBody, SendPort, RecvPort, SpawnBody, NackBody, Delay, Addend}
 use Rattle.grammar.specs.Grammar.{Part}
-use Rattle.passes.specs.Parts.{nth, bytes}
+use Rattle.grammar.specs.Parts.{bytes}
+use Rattle.passes.specs.Parts.{nth}
 
 abbrev pub last_port : ℕ
 last_port = 15
@@ -22,11 +24,6 @@ longest_delay = 86400000
 -- the bytes write a number up to max
 abbrev pub NumberUpto : ℕ → List ℕ → Type 0
 NumberUpto max bs = (n : ℕ) × (n ≤ max) × (bs ≡ decimal n)
-
--- the number up to max that the bytes write, if they write one
-abbrev pub UptoRead : ℕ → List ℕ → Option ℕ → Type 0
-UptoRead max bs (Some n) = (n ≤ max) × (bs ≡ decimal n)
-UptoRead max bs None = NumberUpto max bs → ⊥
 
 -- the bytes write a signed number of 32 bits
 abbrev pub SignedNumber : List ℕ → Type 0
@@ -52,3 +49,6 @@ Ranged (Literal u) bs = Unit {0}
 -- the k-th token is a number out of its range
 abbrev pub IsOutOfRange : List Part → ℕ → Type 0
 IsOutOfRange ps k = Ranged (nth ps k).purpose (bytes (nth ps k)) → ⊥
+
+abbrev pub AllRanged : List Part → Type 0
+AllRanged ps = Nowhere (IsOutOfRange ps)

@@ -1,10 +1,9 @@
 //! What a script must keep beyond its form: ranges, names, limits and literals.
 //!
-//! Each pass goes over the tokens and their uses in order, and finds the first token that breaks its rule.
+//! Each pass goes over the parts in order, and finds the first token that breaks its rule.
 #![tactic(auto)]
 
 pub mod limits;
 pub mod literals;
 pub mod names;
-pub mod parts;
 pub mod ranges;

@@ -1,7 +1,10 @@
-ghost use Rattle.std.specs.Prelude.{◌≡◌, Decides};
-ghost use Rattle.passes.specs.Limits.{with_counted, Full};
-ghost use Rattle.passes.specs.Tallies.{meant, tallied, counted_use, Room, FirstOver};
+ghost use Rattle.std.specs.Prelude.{◌≡◌, IsTrue, ◌↔◌};
+ghost use Rattle.tokens.specs.Places.{Smallest};
+ghost use Rattle.grammar.specs.Parts.{parts_of};
+ghost use Rattle.passes.specs.Limits.{with_counted, Full, IsOverLimit};
+ghost use Rattle.passes.specs.Tallies.{meant, tallied, counted_use, Room};
 
+use grammar::part::Part;
 use grammar::words::{Keyword, Use};
 
 // Events in a script.
@@ -29,7 +32,7 @@ enum Counted {
 
 // How many there have been: events in all, leaves and with-nacks since the latest sync,
 // instructions since the latest body.
-#[derive(Clone, Copy)]
+#[derive(Clone, Copy, Default)]
 struct Tally {
     events: usize,
     leaves: usize,
@@ -37,35 +40,31 @@ struct Tally {
     instrs: usize,
 }
 
-fn counted_as(purpose: Use) -> Counted
-    ensures { meant result ≡ counted_use purpose }
-{
-    let Use::Head(keyword) = purpose else {
-        return Counted::Other;
-    };
-    match keyword {
-        Keyword::Always | Keyword::Send | Keyword::Recv | Keyword::Timeout | Keyword::Nack =>
-            Counted::Leaf,
-        Keyword::WithNack => Counted::Nack,
-        Keyword::Never | Keyword::Choose | Keyword::Wrap | Keyword::Guard => Counted::OtherEvent,
-        Keyword::Sync | Keyword::Spawn | Keyword::Emit | Keyword::Again => Counted::Instr,
-        Keyword::Task => Counted::Body,
-        Keyword::Channel | Keyword::Mailbox | Keyword::Ivar | Keyword::Mvar => Counted::Other,
-        Keyword::Set | Keyword::Add => Counted::Other,
+impl From<Use> for Counted {
+    ghost from_gives = { λ u r. meant r ≡ counted_use u };
+
+    fn from(purpose: Use) -> Counted {
+        let Use::Head(keyword) = purpose else {
+            return Counted::Other;
+        };
+        match keyword {
+            Keyword::Always | Keyword::Send | Keyword::Recv | Keyword::Timeout | Keyword::Nack =>
+                Counted::Leaf,
+            Keyword::WithNack => Counted::Nack,
+            Keyword::Never | Keyword::Choose | Keyword::Wrap | Keyword::Guard =>
+                Counted::OtherEvent,
+            Keyword::Sync | Keyword::Spawn | Keyword::Emit | Keyword::Again => Counted::Instr,
+            Keyword::Task => Counted::Body,
+            Keyword::Channel | Keyword::Mailbox | Keyword::Ivar | Keyword::Mvar => Counted::Other,
+            Keyword::Set | Keyword::Add => Counted::Other,
+        }
     }
 }
 
 impl Tally {
-    const NOTHING: Tally = Tally {
-        events: 0,
-        leaves: 0,
-        nacks: 0,
-        instrs: 0,
-    };
-
     // Whether one more is over the limit.
     fn is_full_for(self, counted: Counted) -> bool
-        ensures { Decides result (Full (tallied self) (meant counted)) }
+        ensures { IsTrue result ↔ Full (tallied self) (meant counted) }
     {
         match counted {
             Counted::Leaf => self.events >= MOST_EVENTS || self.leaves >= MOST_LEAVES,
@@ -102,16 +101,16 @@ impl Tally {
 }
 
 // The number of the first opening bracket whose keyword, the token after it, is one too many.
-pub fn first_over_limit(uses: &[Use]) -> Option<usize>
-    ensures { FirstOver uses.now result }
+pub fn first_over_limit(parts: &[Part<'_>]) -> Option<usize>
+    ensures { Smallest (IsOverLimit (parts_of parts.now)) result }
 {
-    let mut tally = Tally::NOTHING;
-    for (i, pair) in uses.windows(2).enumerate() {
+    let mut tally = Tally::default();
+    for (i, pair) in parts.windows(2).enumerate() {
         // The tally is of the tokens before the bracket, which is the first of the pair.
-        if tally.is_full_for(counted_as(pair[1])) {
+        if tally.is_full_for(pair[1].purpose.into()) {
             return Some(i);
         }
-        tally.count(counted_as(pair[0]));
+        tally.count(pair[0].purpose.into());
     }
     None
 }

@@ -1,12 +1,10 @@
-ghost use Rattle.tokens.specs.Reading.{lexeme};
-ghost use Rattle.passes.specs.Parts.{parts_of, bytes_in};
+ghost use Rattle.grammar.specs.Parts.{told, parts_of};
 ghost use Rattle.passes.specs.Refusals.{Admits, Refuses};
 
-use crate::parts::bytes_of;
+use grammar::part::Part;
 use grammar::words::Use;
 use message::kind::Message;
 use message::literal::LiteralFault;
-use tokens::token::Token;
 
 // The number of a token, and why its bytes are no literal of a message.
 #[derive(Clone, Copy)]
@@ -15,25 +13,22 @@ pub struct RefusedLiteral {
     pub fault: LiteralFault,
 }
 
-fn check_literal<M: Message>(token: Token<'_>, purpose: Use) -> Result<(), LiteralFault>
-    ensures { Admits M.Literal.literal purpose (bytes_in (lexeme token.entry)) result }
+fn check_literal<M: Message>(part: Part<'_>) -> Result<(), LiteralFault>
+    ensures { Admits M.Literal.literal (told part.entry) result }
 {
-    if let Use::Literal(_) = purpose {
-        M::read(bytes_of(token))?;
+    if let Use::Literal(_) = part.purpose {
+        M::read(part.bytes())?;
     }
     Ok(())
 }
 
 // The first token that is a literal, and no message's.
-pub fn first_refused_literal<M: Message>(
-    tokens: &[Token<'_>],
-    uses: &[Use],
-) -> Option<RefusedLiteral>
-    ensures { Refuses M.Literal.literal (parts_of tokens.now uses.now) result }
+pub fn first_refused_literal<M: Message>(parts: &[Part<'_>]) -> Option<RefusedLiteral>
+    ensures { Refuses M.Literal.literal (parts_of parts.now) result }
 {
-    for (i, (token, purpose)) in tokens.iter().zip(uses).enumerate() {
-        if let Err(fault) = check_literal::<M>(*token, *purpose) {
-            return Some(RefusedLiteral { token: i, fault });
+    for (token, part) in parts.iter().enumerate() {
+        if let Err(fault) = check_literal::<M>(*part) {
+            return Some(RefusedLiteral { token, fault });
         }
     }
     None

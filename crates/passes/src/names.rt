@@ -1,15 +1,14 @@
 ghost use Rattle.std.specs.Prelude.{◌≡◌};
-ghost use Rattle.tokens.specs.Places.{Nowhere, Smallest};
-ghost use Rattle.tokens.specs.Reading.{lexeme};
-ghost use Rattle.passes.specs.Parts.{parts_of, bytes_in};
-ghost use Rattle.passes.specs.Ranges.{last_port, last_body, IsOutOfRange};
-ghost use Rattle.passes.specs.Names.{port as a_port, body as a_body, declares, names, Misnamed};
-ghost use Rattle.passes.specs.Declarations.{Small, ReadAs, Mentions, holds, Empty, Added, Declaring, Lacking, KnowsAll};
+ghost use Rattle.tokens.specs.Places.{Smallest};
+ghost use Rattle.grammar.specs.Parts.{told, parts_of};
+ghost use Rattle.passes.specs.Ranges.{AllRanged};
+ghost use Rattle.passes.specs.Names.{declares, names, Misnamed};
+ghost use Rattle.passes.specs.Declarations.{Small, Mentions, holds, Empty, Added, Declaring, Lacking, KnowsAll};
 
-use crate::parts::bytes_of;
-use crate::ranges::{LAST_BODY, LAST_PORT, number_upto};
+use crate::ranges::{LAST_BODY, LAST_PORT};
+use grammar::part::Part;
 use grammar::words::{NumberUse, Use};
-use tokens::token::Token;
+use message::decimal::read_number;
 
 // A port or a body by its number.
 #[derive(Clone, Copy)]
@@ -18,7 +17,8 @@ enum Name {
     Body(u32),
 }
 
-// The ports and the bodies that are declared, by their numbers.
+// The ports and the bodies that are declared, by their numbers. A set of the library would take
+// memory, and this pass never fails for want of it.
 #[derive(Clone, Copy)]
 struct Declared {
     ports: [bool; 16],
@@ -55,11 +55,11 @@ impl Declared {
         }
     }
 
-    // Takes in what the token declares; whether that was there before.
-    fn declare(&mut self, token: Token<'_>, purpose: Use) -> bool
-        ensures { Declaring purpose (bytes_in (lexeme token.entry)) self.old self.new result }
+    // Takes in what the part declares; whether that was there before.
+    fn declare(&mut self, part: Part<'_>) -> bool
+        ensures { Declaring (told part.entry) self.old self.new result }
     {
-        let Some(name) = declared_by(token, purpose) else {
+        let Some(name) = declared_by(part) else {
             return false;
         };
         let is_again = self.contains(name);
@@ -67,77 +67,70 @@ impl Declared {
         is_again
     }
 
-    // Whether the token names what is not there.
-    fn lacks(&self, token: Token<'_>, purpose: Use) -> bool
-        ensures { Lacking purpose (bytes_in (lexeme token.entry)) self.now result }
+    // Whether the part names what is not there.
+    fn lacks(&self, part: Part<'_>) -> bool
+        ensures { Lacking (told part.entry) self.now result }
     {
-        match named_by(token, purpose) {
-            Some(name) => !self.contains(name),
-            None => false,
-        }
+        named_by(part).is_some_and(|name| !self.contains(name))
     }
 }
 
-fn port(bytes: &[u8]) -> Option<Name>
-    ensures { ReadAs a_port last_port bytes.now result }
+// The port or the body that the part declares, if its number is in range.
+fn declared_by(part: Part<'_>) -> Option<Name>
+    ensures { Mentions declares (told part.entry) result }
 {
-    Some(Name::Port(number_upto(bytes, LAST_PORT)?))
-}
-
-fn body(bytes: &[u8]) -> Option<Name>
-    ensures { ReadAs a_body last_body bytes.now result }
-{
-    Some(Name::Body(number_upto(bytes, LAST_BODY)?))
-}
-
-// The port or the body that the token declares, if its number is in range.
-fn declared_by(token: Token<'_>, purpose: Use) -> Option<Name>
-    ensures { Mentions declares purpose (bytes_in (lexeme token.entry)) result }
-{
-    match purpose {
-        Use::Number(NumberUse::NewPort(_)) => port(bytes_of(token)),
-        Use::Number(NumberUse::NewBody) => body(bytes_of(token)),
+    let Use::Number(number) = part.purpose else {
+        return None;
+    };
+    let bytes = part.bytes();
+    match number {
+        NumberUse::NewPort(_) => read_number(bytes, LAST_PORT).map(Name::Port),
+        NumberUse::NewBody => read_number(bytes, LAST_BODY).map(Name::Body),
         _ => None,
     }
 }
 
-// The port or the body that the token names, if its number is in range.
-fn named_by(token: Token<'_>, purpose: Use) -> Option<Name>
-    ensures { Mentions names purpose (bytes_in (lexeme token.entry)) result }
+// The port or the body that the part names, if its number is in range.
+fn named_by(part: Part<'_>) -> Option<Name>
+    ensures { Mentions names (told part.entry) result }
 {
-    match purpose {
-        Use::Number(NumberUse::SendPort | NumberUse::RecvPort) => port(bytes_of(token)),
-        Use::Number(NumberUse::SpawnBody | NumberUse::NackBody) => body(bytes_of(token)),
+    let Use::Number(number) = part.purpose else {
+        return None;
+    };
+    let bytes = part.bytes();
+    match number {
+        NumberUse::SendPort | NumberUse::RecvPort => read_number(bytes, LAST_PORT).map(Name::Port),
+        NumberUse::SpawnBody | NumberUse::NackBody => read_number(bytes, LAST_BODY).map(Name::Body),
         _ => None,
     }
 }
 
-fn all_declared(tokens: &[Token<'_>], uses: &[Use]) -> Declared
-    ensures { Nowhere (IsOutOfRange (parts_of tokens.now uses.now)) → KnowsAll (parts_of tokens.now uses.now) result }
+fn all_declared(parts: &[Part<'_>]) -> Declared
+    ensures { AllRanged (parts_of parts.now) → KnowsAll (parts_of parts.now) result }
 {
     let mut declared = Declared::new();
-    for (token, purpose) in tokens.iter().zip(uses) {
-        declared.declare(*token, *purpose);
+    for part in parts {
+        declared.declare(*part);
     }
     declared
 }
 
 // The number of the first token that declares a name again or names what is not declared. Where
 // only body 0 is missing, it is the number of tokens.
-pub fn first_misnamed(tokens: &[Token<'_>], uses: &[Use]) -> Option<usize>
-    ensures { Nowhere (IsOutOfRange (parts_of tokens.now uses.now)) → Smallest (Misnamed (parts_of tokens.now uses.now)) result }
+pub fn first_misnamed(parts: &[Part<'_>]) -> Option<usize>
+    ensures { AllRanged (parts_of parts.now) → Smallest (Misnamed (parts_of parts.now)) result }
 {
     // A name may stand before its declaration.
-    let declared = all_declared(tokens, uses);
+    let declared = all_declared(parts);
     let mut seen = Declared::new();
-    for (i, (token, purpose)) in tokens.iter().zip(uses).enumerate() {
-        if seen.declare(*token, *purpose) || declared.lacks(*token, *purpose) {
+    for (i, part) in parts.iter().enumerate() {
+        if seen.declare(*part) || declared.lacks(*part) {
             return Some(i);
         }
     }
     if declared.contains(Name::Body(0)) {
         None
     } else {
-        Some(tokens.len().min(uses.len()))
+        Some(parts.len())
     }
 }

@@ -1,5 +1,5 @@
 -- What the parts of a script add to a table, one after another.
-use Rattle.std.proofs.Common.{◌≡◌, ℕ, ◌≤◌, List, [], ◌∷◌, ◌++◌, length, decimal, sym, refl, ap, subst, ap₂, append_assoc, append-nil}
+use Rattle.std.proofs.Common.{◌≡◌, ℕ, ◌≤◌, List, [], ◌∷◌, ◌++◌, length, Option, Some, decimal, sym, refl, ap, subst, ap₂, append_assoc, append-nil}
 use Rattle.std.specs.Fmt.{signed_decimal}
 use Rattle.std.specs.List.{AllByRecursion}
 use Rattle.grammar.specs.declared.words.PortKind.{PortKind}
@@ -12,7 +12,7 @@ use Rattle.grammar.specs.declared.words.NumberUse.TheVariants.{NewPort, NewBody,
 use Rattle.grammar.specs.declared.words.LiteralUse.TheVariants.{InAlways, InSet}
 use Rattle.grammar.specs.Grammar as g
 use Rattle.grammar.specs.Grammar.{Part, form, each, number}
-use Rattle.passes.specs.Parts.{bytes}
+use Rattle.grammar.specs.Parts.{bytes}
 use Rattle.passes.specs.Ranges.{last_port}
 use Rattle.rows.specs.declared.row.Instr.{Instr}
 use Rattle.rows.specs.declared.row.Instr.TheVariants as instr
@@ -24,11 +24,11 @@ use Rattle.rows.specs.Scripts as s
 use Rattle.rows.specs.Scripts.{spelling, ActionWithin, EventWithin, EventsWithin, InstrWithin, BodyWithin, Within}
 use Rattle.rows.specs.Rows.{row, rows, action_node, bodies}
 use Rattle.rows.specs.Entries.{bracket_entry, head_entry, EntryOf}
-use Rattle.rows.specs.Tables.{Table, with_entry, with_instr}
+use Rattle.rows.specs.Tables.{Table, with_entry, with_some, with_instr}
 
 abbrev pub Steps : {M : Type 0} → (M → List ℕ) → List Part → Table M → Table M → Type 0
 Steps literal [] t u = t ≡ u
-Steps {M} literal (p ∷ ps) t u = (e : Entry M) × EntryOf literal p.purpose (bytes p) e × Steps literal ps (with_entry t e) u
+Steps {M} literal (p ∷ ps) t u = (o : Option (Entry M)) × EntryOf literal p.purpose (bytes p) o × Steps literal ps (with_some t o) u
 
 -- the parts make the table u of t
 pub record Adds {M : Type 0} (literal : M → List ℕ) (ps : List Part) (t u : Table M) : Type 0 where
@@ -97,7 +97,7 @@ around_both ns a xs b ys c = simp append_assoc
 module _ {M : Type 0} (literal : M → List ℕ) where
   steps_append : (ps qs : List Part) (t u v : Table M) → Steps literal ps t u → Steps literal qs u v → Steps literal (ps ++ qs) t v
   steps_append [] qs t u v e k = let P : Table M → Type 0 = λ w. Steps literal qs w v in subst P (sym e) k
-  steps_append (p ∷ ps) qs t u v (e, of, rest) k = (e, of, steps_append ps qs (with_entry t e) u v rest k)
+  steps_append (p ∷ ps) qs t u v (o, of, rest) k = (o, of, steps_append ps qs (with_some t o) u v rest k)
 
   pub adds_append : {ps qs : List Part} {t u v : Table M} → Adds literal ps t u → Adds literal qs u v → Adds literal (ps ++ qs) t v
   adds_append {ps} {qs} {t} {u} {v} h k = record { steps = steps_append ps qs t u v h.steps k.steps }
@@ -108,43 +108,43 @@ module _ {M : Type 0} (literal : M → List ℕ) where
   pub none : {t : Table M} → Adds literal [] t t
   none = record { steps = refl }
 
-  pub part_adds : (p : Part) {ps : List Part} {t u : Table M} (e : Entry M) → EntryOf literal p.purpose (bytes p) e → Adds literal ps (with_entry t e) u → Adds literal (p ∷ ps) t u
-  part_adds p e of h = record { steps = (e, of, h.steps) }
+  pub part_adds : (p : Part) {ps : List Part} {t u : Table M} (o : Option (Entry M)) → EntryOf literal p.purpose (bytes p) o → Adds literal ps (with_some t o) u → Adds literal (p ∷ ps) t u
+  part_adds p o of h = record { steps = (o, of, h.steps) }
 
-  in_form : (o : BracketUse) (k : Keyword) {inside : List Part} (c : BracketUse) {t u : Table M} → Adds literal inside (with_entry (with_entry t (bracket_entry o)) (head_entry k)) u → Adds literal (form o k inside c) t (with_entry u (bracket_entry c))
+  in_form : (o : BracketUse) (k : Keyword) {inside : List Part} (c : BracketUse) {t u : Table M} → Adds literal inside (with_some (with_some t (bracket_entry o)) (head_entry k)) u → Adds literal (form o k inside c) t (with_some u (bracket_entry c))
   in_form o k c h = part_adds _ (bracket_entry o) refl (part_adds _ (head_entry k) refl (adds_append h (part_adds _ (bracket_entry c) refl none)))
 
   -- a form with one part in it
-  in_one : (o : BracketUse) (k : Keyword) (p : Part) (c : BracketUse) {t : Table M} (e : Entry M) → EntryOf literal p.purpose (bytes p) e → Adds literal (form o k (p ∷ []) c) t (with_entry (with_entry (with_entry (with_entry t (bracket_entry o)) (head_entry k)) e) (bracket_entry c))
-  in_one o k p c e of = in_form o k c (part_adds p e of none)
+  in_one : (o : BracketUse) (k : Keyword) (p : Part) (c : BracketUse) {t : Table M} (e : Entry M) → EntryOf literal p.purpose (bytes p) (Some e) → Adds literal (form o k (p ∷ []) c) t (with_some (with_entry (with_some (with_some t (bracket_entry o)) (head_entry k)) e) (bracket_entry c))
+  in_one o k p c e of = in_form o k c (part_adds p (Some e) of none)
 
   action_adds : (a : s.Action M) → ActionWithin a → (t : Table M) → Adds literal (g.action {N = ℕ} (spelling literal) a) t (with_nodes t (action_node a ∷ []))
-  action_adds (g.set l) w t = in_one Open word.Set (g.literal InSet (literal l)) Close (entry.Node (node.Set l)) (l, refl, refl)
-  action_adds (g.add k) w t = in_one Open word.Add (number Addend (signed_decimal k)) Close (entry.Node (node.Add k)) (k, w, refl, refl)
+  action_adds (g.set l) w t = in_one Open word.Set (g.literal InSet (literal l)) Close (entry.Node (node.Set l)) (_, (l, refl, refl), refl)
+  action_adds (g.add k) w t = in_one Open word.Add (number Addend (signed_decimal k)) Close (entry.Node (node.Add k)) (_, (k, w, refl, refl), refl)
 
   mutual
-    event_adds : (o : BracketUse) (e : s.Event M) → EventWithin e → (t : Table M) → Adds literal (g.event (spelling literal) o e) t (with_nodes (with_entry t (bracket_entry o)) (row e))
-    event_adds o g.never w t = to (in_form o word.Never Close none) (as_nodes (with_entry t (bracket_entry o)) (sym (append-nil (with_entry t (bracket_entry o)).nodes)))
+    event_adds : (o : BracketUse) (e : s.Event M) → EventWithin e → (t : Table M) → Adds literal (g.event (spelling literal) o e) t (with_nodes (with_some t (bracket_entry o)) (row e))
+    event_adds o g.never w t = to (in_form o word.Never Close none) (as_nodes (with_some t (bracket_entry o)) (sym (append-nil (with_some t (bracket_entry o)).nodes)))
     event_adds o g.nack w t = in_form o word.Nack Close none
-    event_adds o (g.always l) w t = in_one o word.Always (g.literal InAlways (literal l)) Close (entry.Node (node.Always l)) (l, refl, refl)
-    event_adds o (g.send p) w t = in_one o word.Send (number SendPort (decimal p)) Close (entry.Node (node.Send p)) (p, w, refl, refl)
-    event_adds o (g.recv p) w t = in_one o word.Recv (number RecvPort (decimal p)) Close (entry.Node (node.Recv p)) (p, w, refl, refl)
-    event_adds o (g.timeout d) w t = in_one o word.Timeout (number Delay (decimal d)) Close (entry.Node (node.Timeout d)) (d, w, refl, refl)
-    event_adds o (g.choose es) w t = in_form o word.Choose Close (events_adds es w (with_entry t (bracket_entry o)))
+    event_adds o (g.always l) w t = in_one o word.Always (g.literal InAlways (literal l)) Close (entry.Node (node.Always l)) (_, (l, refl, refl), refl)
+    event_adds o (g.send p) w t = in_one o word.Send (number SendPort (decimal p)) Close (entry.Node (node.Send p)) (_, (p, w, refl, refl), refl)
+    event_adds o (g.recv p) w t = in_one o word.Recv (number RecvPort (decimal p)) Close (entry.Node (node.Recv p)) (_, (p, w, refl, refl), refl)
+    event_adds o (g.timeout d) w t = in_one o word.Timeout (number Delay (decimal d)) Close (entry.Node (node.Timeout d)) (_, (d, w, refl, refl), refl)
+    event_adds o (g.choose es) w t = in_form o word.Choose Close (events_adds es w (with_some t (bracket_entry o)))
     event_adds o (g.wrap e a) w t =
-        let t₀ : Table M = with_entry t (bracket_entry o) in
+        let t₀ : Table M = with_some t (bracket_entry o) in
         let t₁ : Table M = with_nodes t₀ (node.Wrap ∷ []) in
         to (in_form o word.Wrap Close (adds_append (event_adds Open e w.0 t₁) (action_adds a w.1 (with_nodes t₁ (row e)))))
         (as_nodes t₀ (around t₀.nodes node.Wrap (row e) (action_node a)))
     event_adds o (g.guard test e f) w t =
-        let t₀ : Table M = with_entry t (bracket_entry o) in
+        let t₀ : Table M = with_some t (bracket_entry o) in
         let t₁ : Table M = with_nodes t₀ (node.Guard test ∷ []) in
-        to (in_form o word.Guard CloseGuard (part_adds _ (entry.Node (node.Guard test)) refl (adds_append (event_adds Open e w.0 t₁) (event_adds OpenSecond f w.1 (with_nodes t₁ (row e))))))
+        to (in_form o word.Guard CloseGuard (part_adds _ (Some (entry.Node (node.Guard test))) refl (adds_append (event_adds Open e w.0 t₁) (event_adds OpenSecond f w.1 (with_nodes t₁ (row e))))))
         (as_nodes t₀ (around_both t₀.nodes (node.Guard test) (row e) node.Else (row f) node.EndGuard))
     event_adds o (g.with_nack b e) w t =
-        let t₀ : Table M = with_entry t (bracket_entry o) in
+        let t₀ : Table M = with_some t (bracket_entry o) in
         let t₁ : Table M = with_nodes t₀ (node.WithNack b ∷ []) in
-        to (in_form o word.WithNack CloseNack (part_adds (number NackBody (decimal b)) (entry.Node (node.WithNack b)) (b, w.0, refl, refl) (event_adds Open e w.1 t₁)))
+        to (in_form o word.WithNack CloseNack (part_adds (number NackBody (decimal b)) (Some (entry.Node (node.WithNack b))) (_, (b, w.0, refl, refl), refl) (event_adds Open e w.1 t₁)))
         (as_nodes t₀ (around t₀.nodes (node.WithNack b) (row e) node.EndNack))
 
     events_adds : (es : s.Events M) → EventsWithin es → (t : Table M) → Adds literal (g.events (spelling literal) es) t (with_nodes t (rows es))
@@ -156,7 +156,7 @@ module _ {M : Type 0} (literal : M → List ℕ) where
       let t₁ : Table M = with_instr t (instr.Sync (length t.nodes)) in
       to (in_form Open word.Sync CloseSync (event_adds Open e w t₁)) (as_nodes t₁ (append_assoc t.nodes (row e) (node.EndSync ∷ [])))
   instr_adds (g.spawn b) w t =
-      to (in_one Open word.Spawn (number SpawnBody (decimal b)) Close (entry.Instr (instr.Spawn b)) (b, w, refl, refl)) (as_nodes (with_instr t (instr.Spawn b)) (sym (append-nil t.nodes)))
+      to (in_one Open word.Spawn (number SpawnBody (decimal b)) Close (entry.Instr (instr.Spawn b)) (_, (b, w, refl, refl), refl)) (as_nodes (with_instr t (instr.Spawn b)) (sym (append-nil t.nodes)))
   instr_adds g.emit w t = to (in_form Open word.Emit Close none) (as_nodes (with_instr t instr.Emit) (sym (append-nil t.nodes)))
   instr_adds g.again w t = to (in_form Open word.Again Close none) (as_nodes (with_instr t instr.Again) (sym (append-nil t.nodes)))
 
@@ -168,17 +168,17 @@ module _ {M : Type 0} (literal : M → List ℕ) where
 
   body_adds : (b : s.Body M) → BodyWithin b → (t : Table M) → Adds literal (g.body (spelling literal) b) t (after_body t b)
   body_adds b w t =
-      in_form Open word.Task CloseTask (part_adds (number NewBody (decimal b.number)) (entry.Body b.number) (b.number, w.0, refl, refl) (instrs_adds b.instrs w.1 (with_entry t (entry.Body b.number))))
+      in_form Open word.Task CloseTask (part_adds (number NewBody (decimal b.number)) (Some (entry.Body b.number)) (_, (b.number, w.0, refl, refl), refl) (instrs_adds b.instrs w.1 (with_entry t (entry.Body b.number))))
 
   bodies_add : (bs : List (s.Body M)) → AllByRecursion BodyWithin bs → (t : Table M) → Adds literal (each (g.body (spelling literal)) bs) t (after_bodies t bs)
   bodies_add [] w t = none
   bodies_add (b ∷ bs) w t = adds_append (body_adds b w.0 t) (bodies_add bs w.1 (after_body t b))
 
   port_adds : (k : PortKind) (n : ℕ) → n ≤ last_port → (t : Table M) → Adds literal (form Open (g.port_word k) (number (NewPort k) (decimal n) ∷ []) Close) t (with_entry t (entry.Port k n))
-  port_adds Channel n w t = in_one Open word.Channel (number (NewPort Channel) (decimal n)) Close (entry.Port Channel n) (n, w, refl, refl)
-  port_adds Mailbox n w t = in_one Open word.Mailbox (number (NewPort Mailbox) (decimal n)) Close (entry.Port Mailbox n) (n, w, refl, refl)
-  port_adds Ivar n w t = in_one Open word.Ivar (number (NewPort Ivar) (decimal n)) Close (entry.Port Ivar n) (n, w, refl, refl)
-  port_adds Mvar n w t = in_one Open word.Mvar (number (NewPort Mvar) (decimal n)) Close (entry.Port Mvar n) (n, w, refl, refl)
+  port_adds Channel n w t = in_one Open word.Channel (number (NewPort Channel) (decimal n)) Close (entry.Port Channel n) (_, (n, w, refl, refl), refl)
+  port_adds Mailbox n w t = in_one Open word.Mailbox (number (NewPort Mailbox) (decimal n)) Close (entry.Port Mailbox n) (_, (n, w, refl, refl), refl)
+  port_adds Ivar n w t = in_one Open word.Ivar (number (NewPort Ivar) (decimal n)) Close (entry.Port Ivar n) (_, (n, w, refl, refl), refl)
+  port_adds Mvar n w t = in_one Open word.Mvar (number (NewPort Mvar) (decimal n)) Close (entry.Port Mvar n) (_, (n, w, refl, refl), refl)
 
   ports_add : (ps : List (g.Port ℕ)) → AllByRecursion (λ p. p.number ≤ last_port) ps → (t : Table M) → Adds literal (each (g.port (spelling literal)) ps) t (after_ports t ps)
   ports_add [] w t = none

@@ -1,9 +1,7 @@
 pub mod Numbers
-pub mod Reading
 pub mod Held
 pub mod Adding
 pub mod Holding
 pub mod Valued
 pub mod Once
 pub mod Building
-pub mod Pairing

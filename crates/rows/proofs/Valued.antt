@@ -10,7 +10,7 @@ use Rattle.grammar.specs.declared.words.Use.TheVariants.{Test}
 use Rattle.tokens.specs.Tokens.{atom}
 use Rattle.grammar.specs.Grammar as g
 use Rattle.grammar.specs.Grammar.{Part, part, form, each, number, literal as written, as_written, test_word, port_word}
-use Rattle.passes.specs.Parts.{bytes}
+use Rattle.grammar.specs.Parts.{bytes}
 use Rattle.passes.specs.Ranges.{Ranged, last_port}
 use Rattle.passes.specs.Messages.{MessageFor}
 use Rattle.rows.specs.Scripts as s

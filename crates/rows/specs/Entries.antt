@@ -1,5 +1,5 @@
 -- What each part of a script adds to its rows.
-use Rattle.std.specs.Prelude.{◌≡◌, ℕ, ◌<◌, ◌≤◌, List, ℤ, Some, None, decimal, Option}
+use Rattle.std.specs.Prelude.{◌≡◌, ℕ, ◌<◌, ◌≤◌, ◌⊎◌, List, ℤ, Some, None, decimal, Option}
 use Rattle.std.specs.Int.Signed.{mag}
 use Rattle.std.specs.Fmt.{signed_decimal}
 use Rattle.grammar.specs.declared.words.Keyword.{Keyword}
@@ -16,39 +16,39 @@ use Rattle.passes.specs.Ranges.{last_port, last_body, longest_delay}
 use Rattle.rows.specs.declared.row.Instr.TheVariants as instr
 use Rattle.rows.specs.declared.row.Node.TheVariants as node
 use Rattle.rows.specs.declared.entry.Entry.{Entry}
-use Rattle.rows.specs.declared.entry.Entry.TheVariants.{Nothing, Port, Body, Sync, Instr, Node}
+use Rattle.rows.specs.declared.entry.Entry.TheVariants.{Port, Body, Sync, Instr, Node}
 
-abbrev pub bracket_entry : {M : Type 0} → BracketUse → Entry M
-bracket_entry Open = Nothing
-bracket_entry OpenSecond = Node node.Else
-bracket_entry Close = Nothing
-bracket_entry CloseTask = Instr instr.End
-bracket_entry CloseSync = Node node.EndSync
-bracket_entry CloseGuard = Node node.EndGuard
-bracket_entry CloseNack = Node node.EndNack
+abbrev pub bracket_entry : {M : Type 0} → BracketUse → Option (Entry M)
+bracket_entry Open = None
+bracket_entry OpenSecond = Some (Node node.Else)
+bracket_entry Close = None
+bracket_entry CloseTask = Some (Instr instr.End)
+bracket_entry CloseSync = Some (Node node.EndSync)
+bracket_entry CloseGuard = Some (Node node.EndGuard)
+bracket_entry CloseNack = Some (Node node.EndNack)
 
-abbrev pub head_entry : {M : Type 0} → Keyword → Entry M
-head_entry word.Channel = Nothing
-head_entry word.Mailbox = Nothing
-head_entry word.Ivar = Nothing
-head_entry word.Mvar = Nothing
-head_entry word.Task = Nothing
-head_entry word.Sync = Sync
-head_entry word.Spawn = Nothing
-head_entry word.Emit = Instr instr.Emit
-head_entry word.Again = Instr instr.Again
-head_entry word.Never = Nothing
-head_entry word.Always = Nothing
-head_entry word.Send = Nothing
-head_entry word.Recv = Nothing
-head_entry word.Timeout = Nothing
-head_entry word.Nack = Node node.Nack
-head_entry word.Choose = Nothing
-head_entry word.Wrap = Node node.Wrap
-head_entry word.Guard = Nothing
-head_entry word.WithNack = Nothing
-head_entry word.Set = Nothing
-head_entry word.Add = Nothing
+abbrev pub head_entry : {M : Type 0} → Keyword → Option (Entry M)
+head_entry word.Channel = None
+head_entry word.Mailbox = None
+head_entry word.Ivar = None
+head_entry word.Mvar = None
+head_entry word.Task = None
+head_entry word.Sync = Some Sync
+head_entry word.Spawn = None
+head_entry word.Emit = Some (Instr instr.Emit)
+head_entry word.Again = Some (Instr instr.Again)
+head_entry word.Never = None
+head_entry word.Always = None
+head_entry word.Send = None
+head_entry word.Recv = None
+head_entry word.Timeout = None
+head_entry word.Nack = Some (Node node.Nack)
+head_entry word.Choose = None
+head_entry word.Wrap = Some (Node node.Wrap)
+head_entry word.Guard = None
+head_entry word.WithNack = None
+head_entry word.Set = None
+head_entry word.Add = None
 
 abbrev pub literal_entry : {M : Type 0} → LiteralUse → M → Entry M
 literal_entry InAlways m = Node (node.Always m)
@@ -72,13 +72,13 @@ NumberEntry Addend bs e = (z : ℤ) × (mag z < 2147483648) × (bs ≡ signed_de
 abbrev pub LiteralEntry : {M : Type 0} → (M → List ℕ) → LiteralUse → List ℕ → Entry M → Type 0
 LiteralEntry {M} literal u bs e = (m : M) × (bs ≡ literal m) × (e ≡ literal_entry u m)
 
--- what a token of these bytes adds, by its use
-abbrev pub EntryOf : {M : Type 0} → (M → List ℕ) → Use → List ℕ → Entry M → Type 0
-EntryOf literal (Bracket u) bs e = e ≡ bracket_entry u
-EntryOf literal (Head k) bs e = e ≡ head_entry k
-EntryOf literal (Test t) bs e = e ≡ Node (node.Guard t)
-EntryOf literal (Number u) bs e = NumberEntry u bs e
-EntryOf literal (Literal u) bs e = LiteralEntry literal u bs e
+-- what a token of these bytes adds, by its use; a bracket or a word may add nothing
+abbrev pub EntryOf : {M : Type 0} → (M → List ℕ) → Use → List ℕ → Option (Entry M) → Type 0
+EntryOf literal (Bracket u) bs o = o ≡ bracket_entry u
+EntryOf literal (Head k) bs o = o ≡ head_entry k
+EntryOf literal (Test t) bs o = o ≡ Some (Node (node.Guard t))
+EntryOf {M} literal (Number u) bs o = (e : Entry M) × NumberEntry u bs e × (o ≡ Some e)
+EntryOf {M} literal (Literal u) bs o = (e : Entry M) × LiteralEntry literal u bs e × (o ≡ Some e)
 
 -- what is read: the entry, or none where there is none
 
@@ -86,14 +86,12 @@ abbrev pub ReadAs : {X : Type 0} → (X → Type 0) → Option X → Type 0
 ReadAs P (Some x) = P x
 ReadAs {X} P None = (x : X) → P x → ⊥
 
-abbrev pub NumberRead : ℕ → List ℕ → Option ℕ → Type 0
-NumberRead max bs r = ReadAs (λ n. (n ≤ max) × (bs ≡ decimal n)) r
-
 abbrev pub NumberEntryRead : {M : Type 0} → NumberUse → List ℕ → Option (Entry M) → Type 0
 NumberEntryRead u bs r = ReadAs (NumberEntry u bs) r
 
 abbrev pub LiteralEntryRead : {M : Type 0} → (M → List ℕ) → LiteralUse → List ℕ → Option (Entry M) → Type 0
 LiteralEntryRead literal u bs r = ReadAs (LiteralEntry literal u bs) r
 
+-- what a token adds, or nothing where its number or its literal cannot be read
 abbrev pub EntryRead : {M : Type 0} → (M → List ℕ) → Use → List ℕ → Option (Entry M) → Type 0
-EntryRead literal u bs r = ReadAs (EntryOf literal u bs) r
+EntryRead {M} literal u bs r = EntryOf literal u bs r ⊎ ((r ≡ None) × ((o : Option (Entry M)) → EntryOf literal u bs o → ⊥))

@@ -47,14 +47,17 @@ abbrev pub with_instr : {M : Type 0} → Table M → Instr → Table M
 with_instr t i = record { ports = t.ports; starts = t.starts; instrs = t.instrs ++ (i ∷ []); nodes = t.nodes }
 
 abbrev pub with_entry : {M : Type 0} → Table M → Entry M → Table M
-with_entry t entry.Nothing = t
 with_entry t (entry.Port k n) = record { ports = declared t.ports n k; starts = t.starts; instrs = t.instrs; nodes = t.nodes }
 with_entry t (entry.Body n) = record { ports = t.ports; starts = declared t.starts n (length t.instrs); instrs = t.instrs; nodes = t.nodes }
 with_entry t entry.Sync = with_instr t (instr.Sync (length t.nodes))
 with_entry t (entry.Instr i) = with_instr t i
 with_entry t (entry.Node n) = record { ports = t.ports; starts = t.starts; instrs = t.instrs; nodes = t.nodes ++ (n ∷ []) }
 
--- a token of these bytes adds its entry, if it has one
+abbrev pub with_some : {M : Type 0} → Table M → Option (Entry M) → Table M
+with_some t None = t
+with_some t (Some e) = with_entry t e
+
+-- a token of these bytes adds what it has to add, if it can be read
 abbrev pub PartAdded : {M : Type 0} → (M → List ℕ) → Use → List ℕ → Table M → Table M → Type 0
 PartAdded {M} literal u bs t after =
-    ((e : Entry M) × EntryOf literal u bs e × (after ≡ with_entry t e)) ⊎ (((e : Entry M) → EntryOf literal u bs e → ⊥) × (after ≡ t))
+    ((o : Option (Entry M)) × EntryOf literal u bs o × (after ≡ with_some t o)) ⊎ (((o : Option (Entry M)) → EntryOf literal u bs o → ⊥) × (after ≡ t))

@@ -1,27 +1,20 @@
-ghost use Rattle.std.specs.Prelude.{◌≡◌};
-ghost use Rattle.passes.specs.Parts.{bytes_in};
-ghost use Rattle.tokens.specs.Reading.{lexeme};
-ghost use Rattle.rows.specs.Entries.{bracket_entry, head_entry, NumberRead, NumberEntryRead, LiteralEntryRead, EntryRead};
+ghost use Rattle.std.specs.Prelude.{◌≡◌, ◌<◌};
+ghost use Rattle.message.specs.Numerals.{ReadsNumber};
+ghost use Rattle.grammar.specs.Parts.{told, bytes};
+ghost use Rattle.rows.specs.Entries.{bracket_entry, head_entry, NumberEntryRead, LiteralEntryRead, EntryRead};
 
 use crate::row::{Instr, Node};
+use grammar::part::Part;
 use grammar::words::{BracketUse, Keyword, LiteralUse, NumberUse, PortKind, Use};
+use message::decimal::read_number;
 use message::kind::Message;
 use message::literal::Literal;
 use message::weight::Weight;
-use passes::parts::bytes_of;
-use passes::ranges::number_upto;
-use tokens::token::Token;
-
-const LAST_PORT: u8 = 15;
-
-const LAST_BODY: u8 = 31;
-
-const LONGEST_DELAY: u32 = 86400000;
+use passes::ranges::{LAST_BODY, LAST_PORT, LONGEST_DELAY};
 
 // What a part of a script adds to its rows.
 #[derive(Drop)]
 pub enum Entry<M> {
-    Nothing,
     Port { kind: PortKind, number: u8 },
     // A body whose instructions begin here.
     Body { number: u8 },
@@ -31,46 +24,37 @@ pub enum Entry<M> {
     Node(Node<M>),
 }
 
-// The number up to `max` that the bytes write.
-fn read_number(bytes: &[u8], max: u32) -> Option<u32>
-    ensures { NumberRead max bytes.now result }
+// The number of a port or a body.
+fn read_name(bytes: &[u8], max: u32) -> Option<u8>
+    requires { max < 256 }
+    ensures { ReadsNumber max bytes.now result }
 {
-    number_upto(bytes, max)
+    u8::try_from(read_number(bytes, max)?).ok()
 }
 
-// The same for a number of one byte.
-fn read_name(bytes: &[u8], max: u8) -> Option<u8>
-    ensures { NumberRead max bytes.now result }
-{
-    match read_number(bytes, u32::from(max)) {
-        Some(n) => Some(n as u8),
-        None => None,
-    }
-}
-
-fn bracket_entry<M>(purpose: BracketUse) -> Entry<M>
+fn bracket_entry<M>(purpose: BracketUse) -> Option<Entry<M>>
     ensures { result ≡ bracket_entry purpose }
 {
     match purpose {
-        BracketUse::Open | BracketUse::Close => Entry::Nothing,
-        BracketUse::OpenSecond => Entry::Node(Node::Else),
-        BracketUse::CloseTask => Entry::Instr(Instr::End),
-        BracketUse::CloseSync => Entry::Node(Node::EndSync),
-        BracketUse::CloseGuard => Entry::Node(Node::EndGuard),
-        BracketUse::CloseNack => Entry::Node(Node::EndNack),
+        BracketUse::Open | BracketUse::Close => None,
+        BracketUse::OpenSecond => Some(Entry::Node(Node::Else)),
+        BracketUse::CloseTask => Some(Entry::Instr(Instr::End)),
+        BracketUse::CloseSync => Some(Entry::Node(Node::EndSync)),
+        BracketUse::CloseGuard => Some(Entry::Node(Node::EndGuard)),
+        BracketUse::CloseNack => Some(Entry::Node(Node::EndNack)),
     }
 }
 
-fn head_entry<M>(word: Keyword) -> Entry<M>
+fn head_entry<M>(word: Keyword) -> Option<Entry<M>>
     ensures { result ≡ head_entry word }
 {
     match word {
-        Keyword::Sync => Entry::Sync,
-        Keyword::Emit => Entry::Instr(Instr::Emit),
-        Keyword::Again => Entry::Instr(Instr::Again),
-        Keyword::Nack => Entry::Node(Node::Nack),
-        Keyword::Wrap => Entry::Node(Node::Wrap),
-        _ => Entry::Nothing,
+        Keyword::Sync => Some(Entry::Sync),
+        Keyword::Emit => Some(Entry::Instr(Instr::Emit)),
+        Keyword::Again => Some(Entry::Instr(Instr::Again)),
+        Keyword::Nack => Some(Entry::Node(Node::Nack)),
+        Keyword::Wrap => Some(Entry::Node(Node::Wrap)),
+        _ => None,
     }
 }
 
@@ -107,16 +91,17 @@ fn literal_entry<M: Message>(purpose: LiteralUse, bytes: &[u8]) -> Option<Entry<
 }
 
 impl<M: Message> Entry<M> {
-    // What a token adds by its use; None where its number or its literal cannot be read.
-    pub fn of(token: Token<'_>, purpose: Use) -> Option<Entry<M>>
-        ensures { EntryRead M.Literal.literal purpose (bytes_in (lexeme token.entry)) result }
+    // What a part adds, if anything. A number or a literal that cannot be read adds nothing: it has
+    // been refused before.
+    pub fn of(part: Part<'_>) -> Option<Entry<M>>
+        ensures { EntryRead M.Literal.literal part.entry.purpose (bytes (told part.entry)) result }
     {
-        match purpose {
-            Use::Bracket(bracket) => Some(bracket_entry(bracket)),
-            Use::Head(word) => Some(head_entry(word)),
+        match part.purpose {
+            Use::Bracket(bracket) => bracket_entry(bracket),
+            Use::Head(word) => head_entry(word),
             Use::Test(sign) => Some(Entry::Node(Node::Guard(sign))),
-            Use::Number(number) => number_entry(number, bytes_of(token)),
-            Use::Literal(literal) => literal_entry(literal, bytes_of(token)),
+            Use::Number(number) => number_entry(number, part.bytes()),
+            Use::Literal(literal) => literal_entry(literal, part.bytes()),
         }
     }
 }

@@ -1,16 +1,14 @@
-ghost use Rattle.std.specs.Prelude.{◌≡◌, map, IfOk, None, OnOk, slice_index_or};
-ghost use Rattle.tokens.specs.Reading.{lexeme};
-ghost use Rattle.passes.specs.Parts.{bytes_in};
-ghost use Rattle.grammar.specs.Forms.{with_uses};
+ghost use Rattle.std.specs.Prelude.{◌≡◌, IfOk, None, OnOk, slice_index_or};
+ghost use Rattle.grammar.specs.Parts.{told, parts_of, bytes};
 ghost use Rattle.rows.specs.Build.{Builds};
 ghost use Rattle.rows.specs.Rows.{Holds, empty_script};
 ghost use Rattle.rows.specs.Tables.{ports_of, starts_of, instrs_of, nodes_of, table, blank_table, declared, with_entry, PartAdded};
 
 use crate::entry::Entry;
-use grammar::words::{PortKind, Use};
+use grammar::part::Part;
+use grammar::words::PortKind;
 use message::kind::{Message, Sign};
 use std::alloc::{AllocError, Global};
-use tokens::token::Token;
 
 // What a task does at one place of its body.
 #[derive(Clone, Copy)]
@@ -63,9 +61,16 @@ fn declare<T: Drop>(slots: &mut [Option<T>], at: u8, value: T)
     ensures { slots.new ≡ declared slots.old at value }
 {
     let at = usize::from(at);
-    if at < slots.len() && slots[at].is_none() {
+    if let Some(None) = slots.get(at) {
         slots[at] = Some(value);
     }
+}
+
+// The item at a place, or what stands for all past the last.
+fn item_or<T: Copy>(items: &[T], i: usize, past: T) -> T
+    ensures { result ≡ slice_index_or items.now i past }
+{
+    items.get(i).copied().unwrap_or(past)
 }
 
 impl<M: Message> Rows<M> {
@@ -94,7 +99,6 @@ impl<M: Message> Rows<M> {
         ensures { OnOk result (table self.new ≡ with_entry (table self.old) entry) }
     {
         match entry {
-            Entry::Nothing => {}
             Entry::Port { kind, number } => declare(&mut self.ports, number, kind),
             Entry::Body { number } => declare(&mut self.bodies, number, self.instrs.len()),
             Entry::Sync => self.instrs.push(Instr::Sync {
@@ -106,23 +110,22 @@ impl<M: Message> Rows<M> {
         Ok(())
     }
 
-    // Passes over a number or a literal that cannot be read: it has been refused before.
-    fn add_part(&mut self, token: Token<'_>, purpose: Use) -> Result<(), AllocError>
-        ensures { OnOk result (PartAdded M.Literal.literal purpose (bytes_in (lexeme token.entry)) (table self.old) (table self.new)) }
+    fn add_part(&mut self, part: Part<'_>) -> Result<(), AllocError>
+        ensures { OnOk result (PartAdded M.Literal.literal part.entry.purpose (bytes (told part.entry)) (table self.old) (table self.new)) }
     {
-        match Entry::of(token, purpose) {
+        match Entry::of(part) {
             Some(entry) => self.add(entry),
             None => Ok(()),
         }
     }
 
-    // The rows of a script, from its tokens and what each is there for.
-    pub fn build(heap: Global, tokens: &[Token<'_>], uses: &[Use]) -> Result<Rows<M>, AllocError>
-        ensures { IfOk result (λ t. Builds M.Literal.literal (with_uses uses.now (map lexeme tokens.now)) t) }
+    // The rows of a script, from its parts.
+    pub fn build(heap: Global, parts: &[Part<'_>]) -> Result<Rows<M>, AllocError>
+        ensures { IfOk result (λ t. Builds M.Literal.literal (parts_of parts.now) t) }
     {
         let mut rows = Rows::blank(heap);
-        for (token, purpose) in tokens.iter().zip(uses) {
-            rows.add_part(*token, *purpose)?;
+        for part in parts {
+            rows.add_part(*part)?;
         }
         Ok(rows)
     }
@@ -131,27 +134,27 @@ impl<M: Message> Rows<M> {
     pub fn port(&self, p: u8) -> Option<PortKind>
         ensures { result ≡ slice_index_or (ports_of self.now) p None }
     {
-        self.ports.get(usize::from(p)).copied().unwrap_or(None)
+        item_or(&self.ports, usize::from(p), None)
     }
 
     // Where the instructions of a body begin, if it is declared.
     pub fn body(&self, b: u8) -> Option<usize>
         ensures { result ≡ slice_index_or (starts_of self.now) b None }
     {
-        self.bodies.get(usize::from(b)).copied().unwrap_or(None)
+        item_or(&self.bodies, usize::from(b), None)
     }
 
     // The instruction at a place, and past the row the end.
     pub fn instr(&self, i: usize) -> Instr
         ensures { result ≡ slice_index_or (instrs_of self.now) i Instr.End }
     {
-        self.instrs.get(i).copied().unwrap_or(Instr::End)
+        item_or(&self.instrs, i, Instr::End)
     }
 
     // The node at a place, and past the row the end.
     pub fn node(&self, i: usize) -> Node<M>
         ensures { result ≡ slice_index_or (nodes_of self.now) i Node.EndSync }
     {
-        self.nodes.get(i).copied().unwrap_or(Node::EndSync)
+        item_or(&self.nodes, i, Node::EndSync)
     }
 }

@@ -12,13 +12,23 @@ use Rattle.tokens.proofs.Rising.{places_ordered}
 use Rattle.grammar.specs.declared.words.Use.{Use}
 use Rattle.grammar.specs.Grammar.{Part, IsScript, Viable}
 use Rattle.grammar.specs.Forms.{MisfitAt, Misfit, Uses, with_uses}
+use Rattle.grammar.specs.declared.part.Part as code
+use Rattle.grammar.specs.Parts.{parts_of, bytes}
+use Rattle.grammar.specs.Verdicts.{AreParts}
 use Rattle.grammar.proofs.Determined.{uses_determined}
-use Rattle.passes.specs.Parts.{nth, bytes}
+use Rattle.grammar.proofs.Parts.{told_together}
+use Rattle.passes.specs.Parts.{nth}
 use Rattle.message.specs.declared.literal.LiteralFault.{LiteralFault}
 use Rattle.message.specs.Literals.{Longest}
 use Rattle.script.specs.declared.fault.Fault.{Fault}
 use Rattle.script.specs.Refusals.{Rule, too_long, foreign_byte, too_deep, misfit, out_of_range, misnamed, over_limit, no_message, rule_number, Broken, IsInScript, Refused, RefusedLiteral}
 use Rattle.script.specs.Stages.{KeptBelow, Breaks, Formed}
+
+abbrev purposes : List code.Part → List Use
+purposes ps = map (λ p. p.purpose) ps
+
+abbrev the_tokens : List code.Part → List Token
+the_tokens ps = map (λ p. p.token) ps
 
 -- Rules by number.
 
@@ -128,7 +138,7 @@ nowhere_in_script text us u P none i w =
     let Q : List Use → Type 0 = λ vs. P (with_uses vs (lexemes text)) w.token in
     none w.token (subst Q e w.holds)
 
--- The code's tokens.
+-- The code's tokens and parts.
 
 pub token_place : (ks : List Token) (end k : ℕ) (d : Token) → k < length ks → place (placed (get_or ks k d)) ≡ place_of (map placed ks) end k
 token_place [] end k d lt = absurd (omega arith)
@@ -144,38 +154,42 @@ map_lexeme : (ks : List Token) → map lexeme ks ≡ map bare (map placed ks)
 map_lexeme [] = refl
 map_lexeme (k ∷ ks) = ap (λ l. lexeme k ∷ l) (map_lexeme ks)
 
-pub tokens_lexemes : (text : List ℕ) (ks : List Token) → Tokenised text ks → map lexeme ks ≡ lexemes text
+tokens_lexemes : (text : List ℕ) (ks : List Token) → Tokenised text ks → map lexeme ks ≡ lexemes text
 tokens_lexemes text ks t = map_lexeme ks ∙ ap (map bare) t.tokens_are
 
--- What is first among the code's tokens is first in the text, at its place.
+-- tokens of the text in their parts
+pub formed : (text : List ℕ) (ks : List Token) (ps : List code.Part) → Tokenised text ks → AreParts ks ps → Formed text ps
+formed text ks ps t a =
+    let P : List Lexeme → Type 0 = λ ls. Uses ls (purposes ps) in
+    record { tokens = subst (Tokenised text) (sym a.tokens_are) t; uses = subst P (tokens_lexemes text ks t) a.uses }
 
-pub stage_first : (text : List ℕ) (ks : List Token) (us : List Use) → Formed text ks us → (P : List Part → ℕ → Type 0) (k at : ℕ) → at ≡ place_of (map placed ks) (length text) k → First (P (with_uses us (map lexeme ks))) k → First (IsInScript P text) at
-stage_first text ks us f P k at e first =
-    let same : at ≡ place_of (tokens text) (length text) k = e ∙ ap (λ ts. place_of ts (length text) k) f.tokens.tokens_are in
-    let Q : List Lexeme → Type 0 = λ ls. First (P (with_uses us ls)) k in
+pub parts_are : (text : List ℕ) (ps : List code.Part) → Formed text ps → parts_of ps ≡ with_uses (purposes ps) (lexemes text)
+parts_are text ps f = sym (told_together ps) ∙ ap (with_uses (purposes ps)) (tokens_lexemes text (the_tokens ps) f.tokens)
+
+-- What is first among the parts is first in the text, at its place.
+
+pub stage_first : (text : List ℕ) (ps : List code.Part) → Formed text ps → (P : List Part → ℕ → Type 0) (k at : ℕ) → at ≡ place_of (tokens text) (length text) k → First (P (parts_of ps)) k → First (IsInScript P text) at
+stage_first text ps f P k at e first =
+    let Q : List Part → Type 0 = λ qs. First (P qs) k in
     let R : ℕ → Type 0 = λ i. First (IsInScript P text) i in
-    subst R (sym same) (first_in_script text us f.uses P k (subst Q (tokens_lexemes text ks f.tokens) first))
+    subst R (sym e) (first_in_script text (purposes ps) f.uses P k (subst Q (parts_are text ps f) first))
 
-pub stage_nowhere : (text : List ℕ) (ks : List Token) (us : List Use) → Formed text ks us → (P : List Part → ℕ → Type 0) → Nowhere (P (with_uses us (map lexeme ks))) → Nowhere (IsInScript P text)
-stage_nowhere text ks us f P none =
-    let Q : List Lexeme → Type 0 = λ ls. Nowhere (P (with_uses us ls)) in
-    nowhere_in_script text us f.uses P (subst Q (tokens_lexemes text ks f.tokens) none)
+pub stage_nowhere : (text : List ℕ) (ps : List code.Part) → Formed text ps → (P : List Part → ℕ → Type 0) → Nowhere (P (parts_of ps)) → Nowhere (IsInScript P text)
+stage_nowhere text ps f P none =
+    let Q : List Part → Type 0 = λ qs. Nowhere (P qs) in
+    nowhere_in_script text (purposes ps) f.uses P (subst Q (parts_are text ps f) none)
 
-pub stage_literal : {M : Type 0} (literal : M → List ℕ) (text : List ℕ) (ks : List Token) (us : List Use) → Formed text ks us → (k at : ℕ) (fault : LiteralFault) → at ≡ place_of (map placed ks) (length text) k
-    → Longest literal (bytes (nth (with_uses us (map lexeme ks)) k)) fault.at → RefusedLiteral literal text at fault
-stage_literal literal text ks us f k at fault e longest =
-    let Q : List Lexeme → Type 0 = λ ls. Longest literal (bytes (nth (with_uses us ls) k)) fault.at in
-    record {
-      uses = us;
-      used = f.uses;
-      token = k;
-      place = e ∙ ap (λ ts. place_of ts (length text) k) f.tokens.tokens_are;
-      longest = subst Q (tokens_lexemes text ks f.tokens) longest;
-    }
+pub nowhere_back : (text : List ℕ) (ps : List code.Part) → Formed text ps → (P : List Part → ℕ → Type 0) → Nowhere (IsInScript P text) → Nowhere (P (parts_of ps))
+nowhere_back text ps f P none k h =
+    let Q : List Part → Type 0 = λ qs. P qs k in
+    none (place_of (tokens text) (length text) k)
+    (record { uses = purposes ps; used = f.uses; token = k; holds = subst Q (parts_are text ps f) h; place = refl })
 
--- each token has a use
-pub formed_length : (text : List ℕ) (ks : List Token) (us : List Use) → Formed text ks us → length us ≤ length (map lexeme ks)
-formed_length text ks us f = omega (arith, f.uses.long, ap length (tokens_lexemes text ks f.tokens))
+pub stage_literal : {M : Type 0} (literal : M → List ℕ) (text : List ℕ) (ps : List code.Part) → Formed text ps → (k at : ℕ) (fault : LiteralFault) → at ≡ place_of (tokens text) (length text) k
+    → Longest literal (bytes (nth (parts_of ps) k)) fault.at → RefusedLiteral literal text at fault
+stage_literal literal text ps f k at fault e longest =
+    let Q : List Part → Type 0 = λ qs. Longest literal (bytes (nth qs k)) fault.at in
+    record { uses = purposes ps; used = f.uses; token = k; place = e; longest = subst Q (parts_are text ps f) longest }
 
 -- The form of the code's tokens is that of the text's.
 
@@ -185,12 +199,3 @@ form_first text ks t k at e m =
     let Q : List Lexeme → Type 0 = λ ls. MisfitAt ls k in
     let R : ℕ → Type 0 = λ i. First (Misfit text) i in
     subst R (sym same) (misfit_first text k (subst Q (tokens_lexemes text ks t) m))
-
-pub form_uses : (text : List ℕ) (ks : List Token) (us : List Use) → Tokenised text ks → Uses (map lexeme ks) us → Uses (lexemes text) us
-form_uses text ks us t u = let Q : List Lexeme → Type 0 = λ ls. Uses ls us in subst Q (tokens_lexemes text ks t) u
-
-pub nowhere_back : (text : List ℕ) (ks : List Token) (us : List Use) → Formed text ks us → (P : List Part → ℕ → Type 0) → Nowhere (IsInScript P text) → Nowhere (P (with_uses us (map lexeme ks)))
-nowhere_back text ks us f P none k h =
-    let Q : List Lexeme → Type 0 = λ ls. P (with_uses us ls) k in
-    none (place_of (tokens text) (length text) k)
-    (record { uses = us; used = f.uses; token = k; holds = subst Q (tokens_lexemes text ks f.tokens) h; place = refl })

@@ -4,13 +4,13 @@ use Rattle.std.specs.Fmt.{digits}
 use Rattle.message.specs.declared.literal.LiteralFault.{LiteralFault}
 use Rattle.tokens.specs.declared.text.TextFault.{TextFault}
 use Rattle.tokens.specs.declared.text.TextFault.TheVariants.{TooLong, ForeignByte, TooDeep}
-use Rattle.tokens.specs.declared.token.Token.{Token}
 use Rattle.tokens.specs.Places.{First, Nowhere}
 use Rattle.tokens.specs.Text.{IsTooLong, IsForeignByte, IsTooDeep}
 use Rattle.tokens.specs.TextFaults.{TextVerdict}
 use Rattle.tokens.specs.Tokens.{opening, closing, atom, lexemes}
-use Rattle.tokens.specs.Reading.{lexeme}
 use Rattle.grammar.specs.declared.words.Use.{Use}
+use Rattle.grammar.specs.declared.part.Part.{Part}
+use Rattle.grammar.specs.Parts.{parts_of}
 use Rattle.grammar.specs.Grammar as g
 use Rattle.grammar.specs.Forms.{Misfit, Uses, with_uses}
 use Rattle.grammar.proofs.Determined.{uses_make_script}
@@ -35,7 +35,7 @@ use Rattle.script.specs.Refusals.{too_long, foreign_byte, too_deep, misfit, out_
 use Rattle.script.specs.declared.checked.Checked.{Checked}
 use Rattle.script.specs.Checks.{or_new, Means}
 use Rattle.script.specs.Stages.{KeptBelow, Formed}
-use Rattle.script.proofs.Composing.{kept_more, kept_none, refused_by, no_misfit, nowhere_back, tokens_lexemes}
+use Rattle.script.proofs.Composing.{kept_more, kept_none, refused_by, no_misfit, nowhere_back, parts_are}
 
 -- The text.
 
@@ -107,19 +107,19 @@ some_text : (text : List ℕ) → g.IsScript (lexemes text) → or_new text ≡ 
 some_text [] s = absurd (no_empty_script s)
 some_text (b ∷ bs) s = refl
 
-pub admitted : {M : Type 0} (literal : M → List ℕ) (text : List ℕ) (ks : List Token) (us : List Use) (t : Checked M) → Formed text ks us → KeptBelow literal text 9
-    → vec_items t.text ≡ text → Builds literal (with_uses us (map lexeme ks)) t.rows → Means literal text t
-admitted literal text ks us t f kept copied builds =
-    let same : map lexeme ks ≡ lexemes text = tokens_lexemes text ks f.tokens in
-    let built = builds f.uses.raw (f.uses.written ∙ ap (with_uses us) (sym same))
-    (nowhere_back text ks us f IsOutOfRange (kept out_of_range (omega arith)))
-    (nowhere_back text ks us f (NoMessage literal) (kept no_message (omega arith))) in
+pub admitted : {M : Type 0} (literal : M → List ℕ) (text : List ℕ) (ps : List Part) (t : Checked M) → Formed text ps → KeptBelow literal text 9 → vec_items t.text ≡ text → Builds literal (parts_of ps) t.rows → Means literal text t
+admitted literal text ps t f kept copied builds =
+    let us = map (λ p. p.purpose) ps in
+    let same : parts_of ps ≡ with_uses us (lexemes text) = parts_are text ps f in
+    let built = builds f.uses.raw (f.uses.written ∙ sym same)
+    (nowhere_back text ps f IsOutOfRange (kept out_of_range (omega arith)))
+    (nowhere_back text ps f (NoMessage literal) (kept no_message (omega arith))) in
     record {
       copy = ap or_new copied ∙ some_text text (uses_make_script (lexemes text) us f.uses);
       script = built.script;
       of_text = record {
         within = built.within;
-        written = ap g.part_lexemes (built.written ∙ ap (with_uses us) same) ∙ lexemes_of us (lexemes text) f.uses.long;
+        written = ap g.part_lexemes (built.written ∙ same) ∙ lexemes_of us (lexemes text) f.uses.long;
       };
       held = built.holds;
     }

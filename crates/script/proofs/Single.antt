@@ -24,7 +24,7 @@ use Rattle.grammar.specs.Forms.{Uses, Injective, with_uses}
 use Rattle.grammar.proofs.Determined.{uses_determined}
 use Rattle.grammar.proofs.Images.{Proper, image_uses}
 use Rattle.grammar.proofs.Once.{written_once}
-use Rattle.grammar.proofs.Parts.{parts_of}
+use Rattle.grammar.proofs.Parts.{put_together}
 use Rattle.passes.specs.Ranges.{last_port}
 use Rattle.rows.specs.Scripts as s
 use Rattle.rows.specs.Scripts.{spelling, ActionWithin, EventWithin, EventsWithin, InstrWithin, BodyWithin, Within, OneScript}
@@ -220,7 +220,7 @@ same_parts : (ps qs : List Part) → part_lexemes ps ≡ part_lexemes qs → Use
 same_parts ps qs e u v =
     let P : List Lexeme → Type 0 = λ ls. Uses ls (map (λ p. p.purpose) ps) in
     let same = uses_determined (part_lexemes qs) (map (λ p. p.purpose) ps) (map (λ p. p.purpose) qs) (subst P e u) v in
-    sym (parts_of ps) ∙ ap₂ with_uses same e ∙ parts_of qs
+    sym (put_together ps) ∙ ap₂ with_uses same e ∙ put_together qs
 
 pub one_script : {M : Type 0} (literal : M → List ℕ) → ((a b : M) → literal a ≡ literal b → a ≡ b) → ((a : M) → Plain (literal a)) → OneScript literal
 one_script literal one plain text t u of_t of_u =

@@ -8,7 +8,8 @@ use Rattle.tokens.specs.Tokens.{tokens, lexemes, place_of}
 use Rattle.grammar.specs.declared.words.Use.{Use}
 use Rattle.grammar.specs.Grammar.{Part}
 use Rattle.grammar.specs.Forms.{Misfit, Uses, with_uses}
-use Rattle.passes.specs.Parts.{nth, bytes}
+use Rattle.grammar.specs.Parts.{bytes}
+use Rattle.passes.specs.Parts.{nth}
 use Rattle.passes.specs.Ranges.{IsOutOfRange}
 use Rattle.passes.specs.Names.{Misnamed}
 use Rattle.passes.specs.Limits.{IsOverLimit}

@@ -1,13 +1,11 @@
 -- What each stage of a check answers, as the first place in the text at which its rule is broken.
-use Rattle.std.specs.Prelude.{◌≡◌, ℕ, ◌<◌, ◌⊎◌, List, Ok, Err, vec_items, Result, Vec}
-use Rattle.tokens.specs.declared.token.Token.{Token}
+use Rattle.std.specs.Prelude.{◌≡◌, ℕ, ◌<◌, ◌⊎◌, List, map, Ok, Err, Result}
 use Rattle.tokens.specs.Places.{First, Nowhere}
 use Rattle.tokens.specs.Tokens.{lexemes}
 use Rattle.tokens.specs.Tokenised.{Tokenised}
-use Rattle.grammar.specs.declared.words.Use.{Use}
+use Rattle.grammar.specs.declared.part.Part.{Part}
 use Rattle.grammar.specs.Forms.{Uses}
 use Rattle.grammar.specs.Forms.{Misfit as IsMisfit}
-use Rattle.std.specs.declared.alloc.Global.{Global}
 use Rattle.message.specs.declared.literal.LiteralFault.{LiteralFault}
 use Rattle.script.specs.declared.fault.Fault.{Fault}
 use Rattle.script.specs.declared.fault.Fault.TheVariants.{Form, Memory}
@@ -26,10 +24,10 @@ pub record Breaks {M : Type 0} (literal : M → List ℕ) (text : List ℕ) (rul
   pub number : rule_number rule ≡ fault_number f
   pub place : First (Broken literal rule text) (fault_place f)
 
--- the text's tokens and what they are there for
-pub record Formed (text : List ℕ) (ts : List Token) (us : List Use) : Type 0 where
-  pub tokens : Tokenised text ts
-  pub uses : Uses (lexemes text) us
+-- the parts are the text's tokens, and what they are there for
+pub record Formed (text : List ℕ) (ps : List Part) : Type 0 where
+  pub tokens : Tokenised text (map (λ p. p.token) ps)
+  pub uses : Uses (lexemes text) (map (λ p. p.purpose) ps)
 
 -- a stage whose fault is made of a place
 abbrev pub Stage : {T F : Type 0} → (ℕ → F) → (ℕ → Type 0) → Result T F → Type 0
@@ -41,7 +39,6 @@ abbrev pub LiteralStage : {M T : Type 0} → (M → List ℕ) → List ℕ → (
 LiteralStage literal text P (Ok x) = Nowhere P
 LiteralStage literal text P (Err f) = (at : ℕ) × (inner : LiteralFault) × (f ≡ InScript at inner) × First P at × RefusedLiteral literal text at inner
 
--- the stage that finds the uses; want of memory is no fault of the text
-abbrev pub FormStage : List ℕ → Result (Vec Use Global) Fault → Type 0
-FormStage text (Ok us) = Uses (lexemes text) (vec_items us)
-FormStage text (Err f) = (f ≡ Memory) ⊎ ((at : ℕ) × (f ≡ Form (Misfit at)) × First (IsMisfit text) at)
+-- why a text has not the form of a script; want of memory is no fault of the text
+abbrev pub Unformed : List ℕ → Fault → Type 0
+Unformed text f = (f ≡ Memory) ⊎ ((at : ℕ) × (f ≡ Form (Misfit at)) × First (IsMisfit text) at)

@@ -5,4 +5,4 @@ pub mod check;
 pub mod checked;
 pub mod fault;
 pub mod laws;
-mod stages;
+mod parsed;

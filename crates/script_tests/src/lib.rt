@@ -4,6 +4,7 @@
 #[cfg(test)]
 mod check_tests {
     use message::kind::Message;
+    use message::literal::LiteralFault;
     use message::ticket::Ticket;
     use message::weight::Weight;
     use script::check::{Text, check as check_script};
@@ -12,15 +13,13 @@ mod check_tests {
     use std::alloc::{AllocError, Global};
     use std::test::Fail;
 
-    // An accepted script has no refusal.
-    const ACCEPTED: (u32, usize) = (0, 0);
-
-    fn verdict<M: Message>(heap: Global, text: &[u8]) -> (u32, usize) {
+    // Nothing of an accepted script, and the number and the place of a refusal.
+    fn verdict<M: Message>(heap: Global, text: &[u8]) -> Result<(), (u32, usize)> {
         let mut table: Checked<M> = Checked::new(heap);
-        match check_script(heap, Text::new(text), &mut table) {
-            Ok(()) => ACCEPTED,
-            Err(fault) => (fault.number(), fault.place()),
-        }
+        check_script(heap, Text::new(text), &mut table).map_err(|fault| (
+            fault.number(),
+            fault.place(),
+        ))
     }
 
     // The front, the piece so many times, and the back.
@@ -42,19 +41,19 @@ mod check_tests {
 
     #[test]
     fn accepted_scripts(rt: HostRuntime) {
-        let scripts: [(&[u8], (u32, usize)); 9] = [
-            (b"(task 0)", ACCEPTED),
-            (b"(task 0(emit)(again))", ACCEPTED),
-            (b" (task\t0\n(spawn 1)) (task 1)\r\n", ACCEPTED),
-            (b"(task 31)(task 0)", ACCEPTED),
-            (b"(channel 15)(task 0(sync(send 15)))", ACCEPTED),
-            (b"(task 0(sync(timeout 86400000)))", ACCEPTED),
-            (b"(task 0(sync(wrap(never)(add 2147483647))))", ACCEPTED),
-            (b"(task 0(sync(wrap(never)(add -2147483648))))", ACCEPTED),
-            (b"(task 0(sync(guard neg(always -7)(nack))))", ACCEPTED),
+        let scripts: [&[u8]; 9] = [
+            b"(task 0)",
+            b"(task 0(emit)(again))",
+            b" (task\t0\n(spawn 1)) (task 1)\r\n",
+            b"(task 31)(task 0)",
+            b"(channel 15)(task 0(sync(send 15)))",
+            b"(task 0(sync(timeout 86400000)))",
+            b"(task 0(sync(wrap(never)(add 2147483647))))",
+            b"(task 0(sync(wrap(never)(add -2147483648))))",
+            b"(task 0(sync(guard neg(always -7)(nack))))",
         ];
-        for (text, want) in scripts {
-            assert_eq!(rt; verdict::<Weight>(rt.alloc(), text), want);
+        for text in scripts {
+            assert_eq!(rt; verdict::<Weight>(rt.alloc(), text), Ok(()));
         }
     }
 
@@ -78,7 +77,7 @@ mod check_tests {
             (b"(task 99(bogus))", (4, 9)),
         ];
         for (text, want) in scripts {
-            assert_eq!(rt; verdict::<Weight>(rt.alloc(), text), want);
+            assert_eq!(rt; verdict::<Weight>(rt.alloc(), text), Err(want));
         }
     }
 
@@ -101,7 +100,7 @@ mod check_tests {
             (b"(task 1(spawn 2)(spawn 3))", (6, 14)),
         ];
         for (text, want) in scripts {
-            assert_eq!(rt; verdict::<Weight>(rt.alloc(), text), want);
+            assert_eq!(rt; verdict::<Weight>(rt.alloc(), text), Err(want));
         }
     }
 
@@ -113,7 +112,7 @@ mod check_tests {
             (b"(task 0(sync(wrap(never)(set 1/2))))", (8, 29)),
         ];
         for (text, want) in scripts {
-            assert_eq!(rt; verdict::<Weight>(rt.alloc(), text), want);
+            assert_eq!(rt; verdict::<Weight>(rt.alloc(), text), Err(want));
         }
     }
 
@@ -135,9 +134,9 @@ mod check_tests {
         ];
         for (front, piece, most, back, place) in limits {
             let full = repeated(heap, front, piece, most, back)?;
-            assert_eq!(rt; verdict::<Weight>(heap, &full), ACCEPTED);
+            assert_eq!(rt; verdict::<Weight>(heap, &full), Ok(()));
             let over = repeated(heap, front, piece, most.saturating_add(1), back)?;
-            assert_eq!(rt; verdict::<Weight>(heap, &over), (7, place));
+            assert_eq!(rt; verdict::<Weight>(heap, &over), Err((7, place)));
         }
         Ok(())
     }
@@ -145,29 +144,27 @@ mod check_tests {
     #[test]
     fn many_digits(rt: HostRuntime) -> Result<(), Fail> {
         let text = repeated(rt.alloc(), b"(channel 1", b"0", 3000, b")(task 0)")?;
-        assert_eq!(rt; verdict::<Weight>(rt.alloc(), &text), (5, 9));
+        assert_eq!(rt; verdict::<Weight>(rt.alloc(), &text), Err((5, 9)));
         Ok(())
     }
 
     #[test]
     fn tickets(rt: HostRuntime) {
         let text = b"(task 0(sync(always 5/-6)))";
-        assert_eq!(rt; verdict::<Ticket>(rt.alloc(), text), ACCEPTED);
-        assert_eq!(rt; verdict::<Weight>(rt.alloc(), text), (8, 20));
+        assert_eq!(rt; verdict::<Ticket>(rt.alloc(), text), Ok(()));
+        assert_eq!(rt; verdict::<Weight>(rt.alloc(), text), Err((8, 20)));
     }
 
     // A literal's own fault comes with the refusal.
     #[test]
-    fn inner_fault(rt: HostRuntime) -> Result<(), Fail> {
+    fn inner_fault(rt: HostRuntime) {
         let heap = rt.alloc();
         let mut table: Checked<Weight> = Checked::new(heap);
-        match check_script(heap, Text::new(b"(task 0(sync(always -0)))"), &mut table) {
-            Err(Fault::Message(MessageFault::InScript { at, fault })) => {
-                assert_eq!(rt; (at, fault.at), (20, 1));
-                Ok(())
-            },
-            _ => Err(Fail::new("not refused so")),
-        }
+        let fault = LiteralFault { at: 1 };
+        assert_eq!(rt;
+            check_script(heap, Text::new(b"(task 0(sync(always -0)))"), &mut table),
+            Err(Fault::Message(MessageFault::InScript { at: 20, fault }))
+        );
     }
 
     fn is_accepted(heap: Global, text: &[u8], table: &mut Checked<Weight>) -> bool {

@@ -1,5 +1,4 @@
 pub mod Opening
 pub mod Runs
 pub mod Rising
-pub mod Integers
 pub mod Steps

@@ -1,15 +1,11 @@
 -- The places of a text's tokens rise, and lie before its end.
-use Rattle.std.proofs.Common.{◌≡◌, ℕ, zero, suc, ◌+◌, ◌≤◌, List, [], ◌∷◌, length, subst, arith}
+use Rattle.std.proofs.Common.{◌≡◌, ℕ, zero, suc, ◌+◌, ◌≤◌, List, [], ◌∷◌, length, zero-add, arith}
 use Rattle.tokens.specs.Tokens.{Placed, at, place, opening, closing, atom, Class, parts, opens, closes, runs, class, next_class, with_run, with_byte, tokens_from, tokens, place_of}
 
 -- places from lo on that rise and lie before hi
 abbrev pub Rises : ℕ → List Placed → ℕ → Type 0
 Rises lo [] hi = lo ≤ hi
 Rises lo (t ∷ ts) hi = (lo ≤ place t) × Rises (place t + 1) ts hi
-
-sooner : (lo : ℕ) (ts : List Placed) (hi : ℕ) → Rises (lo + 1) ts hi → Rises lo ts hi
-sooner lo [] hi h = omega arith
-sooner lo (t ∷ ts) hi h = (omega (arith, h.0), h.1)
 
 earlier : (lo more : ℕ) (ts : List Placed) (hi : ℕ) → lo ≤ more → Rises more ts hi → Rises lo ts hi
 earlier lo more [] hi le h = omega arith
@@ -25,7 +21,7 @@ run_rises i b runs (at j closing ∷ ts) hi h = (omega arith, h)
 run_rises i b runs (at j (atom w) ∷ ts) hi h = (omega arith, earlier (i + 1) (j + 1) ts hi (omega (arith, h.0)) h.1)
 
 byte_rises : (i b : ℕ) (here next : Class) (ts : List Placed) (hi : ℕ) → Rises (i + 1) ts hi → Rises i (with_byte i b here next ts) hi
-byte_rises i b parts next ts hi h = sooner i ts hi h
+byte_rises i b parts next ts hi h = earlier i (i + 1) ts hi (omega arith) h
 byte_rises i b opens next ts hi h = (omega arith, h)
 byte_rises i b closes next ts hi h = (omega arith, h)
 byte_rises i b runs next ts hi h = run_rises i b next ts hi h
@@ -33,9 +29,8 @@ byte_rises i b runs next ts hi h = run_rises i b next ts hi h
 from_rises : (i : ℕ) (bs : List ℕ) → Rises i (tokens_from i bs) (i + length bs)
 from_rises i [] = omega arith
 from_rises i (b ∷ bs) =
-    let P : ℕ → Type 0 = λ hi. Rises i (tokens_from i (b ∷ bs)) hi in
     let e : (i + 1) + length bs ≡ i + length (b ∷ bs) = omega arith in
-    subst P e (byte_rises i b (class b) (next_class bs) (tokens_from (i + 1) bs) ((i + 1) + length bs) (from_rises (i + 1) bs))
+    rw e at (byte_rises i b (class b) (next_class bs) (tokens_from (i + 1) bs) ((i + 1) + length bs) (from_rises (i + 1) bs))
 
 low : (lo : ℕ) (ts : List Placed) (hi k : ℕ) → Rises lo ts hi → lo ≤ place_of ts hi k
 low lo [] hi k h = h
@@ -44,13 +39,10 @@ low lo (t ∷ ts) hi (suc k) h = omega (arith, h.0, low (place t + 1) ts hi k h.
 
 ordered : (lo : ℕ) (ts : List Placed) (hi j k : ℕ) → Rises lo ts hi → j ≤ k → place_of ts hi j ≤ place_of ts hi k
 ordered lo [] hi j k h le = omega arith
-ordered lo (t ∷ ts) hi zero zero h le = omega arith
-ordered lo (t ∷ ts) hi zero (suc k) h le = omega (arith, low (place t + 1) ts hi k h.1)
+ordered lo (t ∷ ts) hi zero k h le = low (place t) (t ∷ ts) hi k (omega arith, h.1)
 ordered lo (t ∷ ts) hi (suc j) zero h le = absurd (omega arith)
 ordered lo (t ∷ ts) hi (suc j) (suc k) h le = ordered (place t + 1) ts hi j k h.1 (omega arith)
 
 -- a later token has no earlier place
 pub places_ordered : (text : List ℕ) (j k : ℕ) → j ≤ k → place_of (tokens text) (length text) j ≤ place_of (tokens text) (length text) k
-places_ordered text j k le =
-    let P : ℕ → Type 0 = λ hi. Rises 0 (tokens text) hi in
-    ordered 0 (tokens text) (length text) j k (subst P (omega arith) (from_rises 0 text)) le
+places_ordered text j k le = ordered 0 (tokens text) (length text) j k (rw zero-add at (from_rises 0 text)) le

@@ -1,4 +1,4 @@
-ghost use Rattle.std.specs.Prelude.{◌≡◌, Decides};
+ghost use Rattle.std.specs.Prelude.{◌≡◌, ◌↔◌, IsTrue};
 ghost use Rattle.tokens.specs.Places.{Smallest};
 ghost use Rattle.tokens.specs.Text.{Allowed, IsForeignByte, IsTooDeep};
 ghost use Rattle.tokens.specs.TextFaults.{text_number, text_place, TextVerdict};
@@ -10,7 +10,7 @@ pub const LONGEST_TEXT: usize = 16384;
 const DEEPEST: usize = 24;
 
 // What is wrong with a script's bytes, before its tokens are looked at.
-#[derive(Clone, Copy, Debug, PartialEq)]
+#[derive(Clone, Copy, Debug, PartialEq, Eq)]
 pub enum TextFault {
     TooLong,
     ForeignByte { at: usize },
@@ -33,15 +33,14 @@ impl TextFault {
     {
         match self {
             TextFault::TooLong => LONGEST_TEXT,
-            TextFault::ForeignByte { at } => at,
-            TextFault::TooDeep { at } => at,
+            TextFault::ForeignByte { at } | TextFault::TooDeep { at } => at,
         }
     }
 }
 
 // Printable ASCII, or a separator.
 fn allowed(b: u8) -> bool
-    ensures { Decides result (Allowed b) }
+    ensures { IsTrue result ↔ Allowed b }
 {
     matches!(b, b' '..=b'~' | b'\t' | b'\n' | b'\r')
 }
@@ -49,15 +48,11 @@ fn allowed(b: u8) -> bool
 fn first_foreign_byte(text: &[u8]) -> Option<usize>
     ensures { Smallest (IsForeignByte text.now) result }
 {
-    for (i, b) in text.iter().enumerate() {
-        if !allowed(*b) {
-            return Some(i);
-        }
-    }
-    None
+    text.iter().position(|b| !allowed(*b))
 }
 
 // A closing bracket with none open closes nothing.
+#[tactic(auto, using(crate::proofs::Opening::open_after_more))]
 fn first_too_deep(text: &[u8]) -> Option<usize>
     ensures { Smallest (IsTooDeep text.now) result }
 {

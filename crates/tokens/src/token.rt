@@ -1,4 +1,4 @@
-ghost use Rattle.std.specs.Prelude.{◌≡◌, ◌+◌, drop, IfOk};
+ghost use Rattle.std.specs.Prelude.{◌≡◌, IfOk};
 ghost use Rattle.std.specs.List.{prefix_len};
 ghost use Rattle.tokens.specs.Tokens.{class, place};
 ghost use Rattle.tokens.specs.Reading.{placed};
@@ -9,7 +9,7 @@ use crate::integer::is_integer;
 use std::alloc::{AllocError, Global};
 
 // A token of a script: the bytes that it is, and their offset.
-#[derive(Clone, Copy)]
+#[derive(Clone, Copy, Debug, PartialEq, Eq)]
 pub enum Token<'a> {
     Open { at: usize },
     Close { at: usize },
@@ -40,7 +40,7 @@ impl<'a> Token<'a> {
 }
 
 // What a byte is to the tokens: it parts them, is one, or is in a run.
-#[derive(Clone, Copy, PartialEq)]
+#[derive(Clone, Copy, PartialEq, Eq)]
 enum Class {
     Separator,
     Open,
@@ -48,26 +48,26 @@ enum Class {
     Run,
 }
 
-fn class_of(b: u8) -> Class
-    ensures { meant result ≡ class b }
-{
-    match b {
-        b' ' | b'\t' | b'\n' | b'\r' => Class::Separator,
-        b'(' => Class::Open,
-        b')' => Class::Close,
-        _ => Class::Run,
+impl From<u8> for Class {
+    ghost from_gives = { λ b r. meant r ≡ class b };
+
+    fn from(b: u8) -> Class {
+        match b {
+            b' ' | b'\t' | b'\n' | b'\r' => Class::Separator,
+            b'(' => Class::Open,
+            b')' => Class::Close,
+            _ => Class::Run,
+        }
     }
 }
 
-// Where the run at `from` ends: at `from` itself where no run stands there.
-fn run_end(text: &[u8], from: usize) -> usize
-    ensures { result ≡ from + prefix_len in_run (drop from text.now) }
+// How many bytes the run at the front of the text has: 0 where none stands there.
+fn run_length(text: &[u8]) -> usize
+    ensures { result ≡ prefix_len in_run text.now }
 {
-    let mut end = from;
-    while end < text.len() && class_of(text[end]) == Class::Run {
-        end += 1;
-    }
-    end
+    text.iter()
+        .take_while(|b| Class::from(**b) == Class::Run)
+        .count()
 }
 
 fn run_token<'a>(at: usize, text: &'a [u8]) -> Token<'a>
@@ -85,22 +85,23 @@ pub fn tokens<'a>(heap: Global, text: &'a [u8]) -> Result<Vec<Token<'a>>, AllocE
     ensures { IfOk result (λ v. Tokenised text.now v.items) }
 {
     let mut found = Vec::new(heap);
-    let mut at = 0;
-    while at < text.len() {
-        match class_of(text[at]) {
-            Class::Separator => at += 1,
+    let mut rest = text;
+    while let Some((&b, tail)) = rest.split_first() {
+        let at = text.len() - rest.len();
+        match Class::from(b) {
+            Class::Separator => rest = tail,
             Class::Open => {
                 found.push(Token::Open { at })?;
-                at += 1;
+                rest = tail;
             }
             Class::Close => {
                 found.push(Token::Close { at })?;
-                at += 1;
+                rest = tail;
             }
             Class::Run => {
-                let end = run_end(text, at);
-                found.push(run_token(at, &text[at..end]))?;
-                at = end;
+                let (run, after) = rest.split_at(run_length(rest));
+                found.push(run_token(at, run))?;
+                rest = after;
             }
         }
     }

@@ -5,28 +5,23 @@
 mod text_tests {
     use tokens::text::check_text;
 
-    // An accepted text has no number.
-    const ACCEPTED: (u32, usize) = (0, 0);
-
-    fn verdict(text: &[u8]) -> (u32, usize) {
-        match check_text(text) {
-            Ok(()) => ACCEPTED,
-            Err(fault) => (fault.number(), fault.place()),
-        }
+    // A refusal by its number and place.
+    fn verdict(text: &[u8]) -> Result<(), (u32, usize)> {
+        check_text(text).map_err(|fault| (fault.number(), fault.place()))
     }
 
     #[test]
     fn bytes(rt: HostRuntime) {
-        let texts: [(&[u8], (u32, usize)); 9] = [
-            (b"", ACCEPTED),
-            (b" \t\n\r", ACCEPTED),
-            (b"(emit !~)", ACCEPTED),
-            (b"a\x1f", (2, 1)),
-            (b"ab\x7f", (2, 2)),
-            (b"abc\x80", (2, 3)),
-            (b"\0", (2, 0)),
-            (b"abcd\xff", (2, 4)),
-            (b"ab\x0bcd\x0c", (2, 2)),
+        let texts: [(&[u8], Result<(), (u32, usize)>); 9] = [
+            (b"", Ok(())),
+            (b" \t\n\r", Ok(())),
+            (b"(emit !~)", Ok(())),
+            (b"a\x1f", Err((2, 1))),
+            (b"ab\x7f", Err((2, 2))),
+            (b"abc\x80", Err((2, 3))),
+            (b"\0", Err((2, 0))),
+            (b"abcd\xff", Err((2, 4))),
+            (b"ab\x0bcd\x0c", Err((2, 2))),
         ];
         for (text, want) in texts {
             assert_eq!(rt; verdict(text), want);
@@ -36,24 +31,24 @@ mod text_tests {
     #[test]
     fn lengths(rt: HostRuntime) {
         let mut text = [b' '; 16385];
-        assert_eq!(rt; verdict(&text[0..16384]), ACCEPTED);
-        assert_eq!(rt; verdict(&text), (1, 16384));
+        assert_eq!(rt; verdict(&text[0..16384]), Ok(()));
+        assert_eq!(rt; verdict(&text), Err((1, 16384)));
         text[0] = 0;
-        assert_eq!(rt; verdict(&text), (1, 16384), "a foreign byte too");
-        assert_eq!(rt; verdict(&text[0..16384]), (2, 0));
+        assert_eq!(rt; verdict(&text), Err((1, 16384)), "a foreign byte too");
+        assert_eq!(rt; verdict(&text[0..16384]), Err((2, 0)));
     }
 
     #[test]
     fn depths(rt: HostRuntime) {
         let mut text = [b'('; 60];
-        assert_eq!(rt; verdict(&text[0..24]), ACCEPTED);
-        assert_eq!(rt; verdict(&text[0..25]), (3, 24));
-        assert_eq!(rt; verdict(&text), (3, 24), "the smallest place");
+        assert_eq!(rt; verdict(&text[0..24]), Ok(()));
+        assert_eq!(rt; verdict(&text[0..25]), Err((3, 24)));
+        assert_eq!(rt; verdict(&text), Err((3, 24)), "the smallest place");
         text[59] = 127;
-        assert_eq!(rt; verdict(&text), (2, 59), "a foreign byte after it");
+        assert_eq!(rt; verdict(&text), Err((2, 59)), "a foreign byte after it");
         text[10] = b')';
-        assert_eq!(rt; verdict(&text[0..26]), ACCEPTED, "one is closed");
-        assert_eq!(rt; verdict(&text[0..27]), (3, 26));
+        assert_eq!(rt; verdict(&text[0..26]), Ok(()), "one is closed");
+        assert_eq!(rt; verdict(&text[0..27]), Err((3, 26)));
     }
 
     // A closing bracket with none open closes nothing.
@@ -63,72 +58,127 @@ mod text_tests {
         text[0] = b')';
         text[1] = b')';
         text[2] = b')';
-        assert_eq!(rt; verdict(&text[0..27]), ACCEPTED);
-        assert_eq!(rt; verdict(&text), (3, 27));
+        assert_eq!(rt; verdict(&text[0..27]), Ok(()));
+        assert_eq!(rt; verdict(&text), Err((3, 27)));
     }
 }
 
 #[cfg(test)]
 mod token_tests {
-    use std::alloc::{AllocError, Global};
     use std::test::Fail;
     use tokens::integer::is_integer;
+    use tokens::token::Token::{Close, Integer, Open, Word};
     use tokens::token::{Token, tokens};
-
-    const INTEGER: u8 = b'#';
-
-    const WORD: u8 = b'\'';
-
-    fn mark(token: Token) -> u8 {
-        match token {
-            Token::Open { .. } => b'(',
-            Token::Close { .. } => b')',
-            Token::Integer { .. } => INTEGER,
-            Token::Word { .. } => WORD,
-        }
-    }
-
-    // Each token's mark and bytes, and a blank.
-    fn shown(heap: Global, text: &[u8]) -> Result<Vec<u8>, AllocError> {
-        let mut all = Vec::new(heap);
-        for token in tokens(heap, text)? {
-            all.push(mark(token))?;
-            all.extend_from_slice(token.bytes())?;
-            all.push(b' ')?;
-        }
-        Ok(all)
-    }
-
-    fn places(heap: Global, text: &[u8]) -> Result<Vec<usize>, AllocError> {
-        let mut all = Vec::new(heap);
-        for token in tokens(heap, text)? {
-            all.push(token.place())?;
-        }
-        Ok(all)
-    }
 
     #[test]
     fn tokens_and_places(rt: HostRuntime) -> Result<(), Fail> {
-        let texts: [(&[u8], &[u8], &[usize]); 13] = [
-            (b"", b"", &[]),
-            (b" \t\n\r", b"", &[]),
-            (b"(", b"( ", &[0]),
-            (b"()", b"( ) ", &[0, 1]),
-            (b"))((", b") ) ( ( ", &[0, 1, 2, 3]),
-            (b"a", b"'a ", &[0]),
-            (b"a b", b"'a 'b ", &[0, 2]),
-            (b"(task 0)", b"( 'task #0 ) ", &[0, 1, 6, 7]),
-            (b"x(y)z", b"'x ( 'y ) 'z ", &[0, 1, 2, 3, 4]),
-            (b"12(-3)", b"#12 ( #-3 ) ", &[0, 2, 3, 5]),
-            (b"a b\tc\nd\re", b"'a 'b 'c 'd 'e ", &[0, 2, 4, 6, 8]),
-            (b"\n\na  b\t\t7\r\r", b"'a 'b #7 ", &[2, 5, 8]),
-            (b"[\xff\0] 1\xff", b"'[\xff\0] '1\xff ", &[0, 5]),
+        let texts: [(&'static [u8], &'static [Token<'static>]); 13] = [
+            (b"", &[]),
+            (b" \t\n\r", &[]),
+            (b"(", &[Open { at: 0 }]),
+            (b"()", &[Open { at: 0 }, Close { at: 1 }]),
+            (
+                b"))((",
+                &[
+                    Close { at: 0 },
+                    Close { at: 1 },
+                    Open { at: 2 },
+                    Open { at: 3 },
+                ],
+            ),
+            (b"a", &[Word { at: 0, text: b"a" }]),
+            (
+                b"a b",
+                &[Word { at: 0, text: b"a" }, Word { at: 2, text: b"b" }],
+            ),
+            (
+                b"(task 0)",
+                &[
+                    Open { at: 0 },
+                    Word {
+                        at: 1,
+                        text: b"task",
+                    },
+                    Integer { at: 6, text: b"0" },
+                    Close { at: 7 },
+                ],
+            ),
+            (
+                b"x(y)z",
+                &[
+                    Word { at: 0, text: b"x" },
+                    Open { at: 1 },
+                    Word { at: 2, text: b"y" },
+                    Close { at: 3 },
+                    Word { at: 4, text: b"z" },
+                ],
+            ),
+            (
+                b"12(-3)",
+                &[
+                    Integer { at: 0, text: b"12" },
+                    Open { at: 2 },
+                    Integer { at: 3, text: b"-3" },
+                    Close { at: 5 },
+                ],
+            ),
+            (
+                b"a b\tc\nd\re",
+                &[
+                    Word { at: 0, text: b"a" },
+                    Word { at: 2, text: b"b" },
+                    Word { at: 4, text: b"c" },
+                    Word { at: 6, text: b"d" },
+                    Word { at: 8, text: b"e" },
+                ],
+            ),
+            (
+                b"\n\na  b\t\t7\r\r",
+                &[
+                    Word { at: 2, text: b"a" },
+                    Word { at: 5, text: b"b" },
+                    Integer { at: 8, text: b"7" },
+                ],
+            ),
+            (
+                b"[\xff\0] 1\xff",
+                &[
+                    Word {
+                        at: 0,
+                        text: b"[\xff\0]",
+                    },
+                    Word {
+                        at: 5,
+                        text: b"1\xff",
+                    },
+                ],
+            ),
         ];
-        for (text, want, at) in texts {
-            assert_eq!(rt; shown(rt.alloc(), text)?.as_slice(), want);
-            assert_eq!(rt; places(rt.alloc(), text)?.as_slice(), at);
+        for (text, want) in texts {
+            assert_eq!(rt; tokens(rt.alloc(), text)?.as_slice(), want);
         }
         Ok(())
+    }
+
+    #[test]
+    fn places_and_bytes(rt: HostRuntime) {
+        let parts: [(Token, usize, &[u8]); 4] = [
+            (Open { at: 2 }, 2, b""),
+            (Close { at: 5 }, 5, b""),
+            (Integer { at: 3, text: b"-3" }, 3, b"-3"),
+            (
+                Word {
+                    at: 1,
+                    text: b"task",
+                },
+                1,
+                b"task",
+            ),
+        ];
+        for (token, place, bytes) in parts {
+            assert_eq!(rt; token.place(), place);
+            assert_eq!(rt; token.bytes(), bytes);
+        }
     }
 
     #[test]
@@ -153,8 +203,12 @@ mod token_tests {
         ];
         for (run, want) in runs {
             assert_eq!(rt; is_integer(run), want);
-            let mark = if want { INTEGER } else { WORD };
-            assert_eq!(rt; shown(rt.alloc(), run)?.first().copied(), Some(mark));
+            let token = if want {
+                Integer { at: 0, text: run }
+            } else {
+                Word { at: 0, text: run }
+            };
+            assert_eq!(rt; tokens(rt.alloc(), run)?.as_slice(), [token].as_slice());
         }
         assert!(rt; !is_integer(b""));
         Ok(())
@@ -164,7 +218,10 @@ mod token_tests {
     fn many_digits(rt: HostRuntime) -> Result<(), Fail> {
         let mut run = vec![in rt.alloc(); b'9'; 3000]?;
         assert!(rt; is_integer(&run));
-        assert_eq!(rt; shown(rt.alloc(), &run)?.len(), 3002);
+        assert_eq!(rt;
+            tokens(rt.alloc(), &run)?.as_slice(),
+            [Integer { at: 0, text: &run }].as_slice()
+        );
         assert!(rt; run.len() == 3000);
         run[0] = b'-';
         assert!(rt; is_integer(&run), "a minus first");

@@ -1,32 +1,26 @@
-use Rattle.std.proofs.Common.{◌+◌, take, Option, subst, arith}
-use Rattle.message.specs.Literals.{Found, Leads}
-use Rattle.message.specs.Joins.{joined}
-use Rattle.message.specs.Joining.{right_decides, left_decides, with_left}
+use Rattle.std.proofs.Common.{rules, ◌∙◌, ◌∷◌, [], Option, take, subst, ◌-◌, length, drop, None, Some}
+use Rattle.std.proofs.lemmas.List.{take_rest}
+use Rattle.std.proofs.lemmas.Bool.Decides.{Decides-eqb}
+use Rattle.std.proofs.lemmas.Slice.Eq.{strip_prefix_is}
+use Rattle.message.specs.Literals.{Found}
+use Rattle.message.proofs.Joining.{right_decides, left_decides}
 use Rattle.message.proofs.joined.Joined.lead.Goals as goal
-use Rattle.message.proofs.joined.Joined.lead.Goals.{then-n-s-via-then-n-s, then-n-s-via-else-n-s+then-s-n}
+use Rattle.message.proofs.joined.Joined.lead.Goals.{in_default-via-in-Some+in_default, in_default-via-in_default}
+
+pub returns-in-Some-Some : goal.returns-in-Some-Some
+returns-in-Some-Some g c =
+    let P : Option g.row.A.Denot → Type 0 = λ o. Found g.A.Literal.literal (take c.lead-first.result.length c.args.s.now) o in
+    let separated = strip_prefix_is Decides-eqb (take (length c.args.s.now - c.lead-first.result.length) (drop c.lead-first.result.length c.args.s.now)) (c.args.separator ∷ []) (Some c.in-Some-Some.rest) c.in-Some-Some.ensures.cases in
+    right_decides g.A.Literal.literal g.B.Literal.literal c.args.separator c.requires c.args.s.now c.in-Some-Some.rest.now c.lead-first.result.length c.in-Some-Some.left c.lead-second.result c.map.result
+    c.lead-first.ensures.longest.within (subst P c.in-Some-Some.is-0 c.lead-first.ensures.found) (rw take_rest at separated) c.lead-second.ensures (λ y j h. search rules) c.map.ensures.cases
 
 pub returns-in_default : goal.returns-in_default
 returns-in_default g c =
     let P : Option g.row.A.Denot → Type 0 = λ o. Found g.A.Literal.literal (take c.lead-first.result.length c.args.s.now) o in
     left_decides g.A.Literal.literal g.B.Literal.literal c.args.separator c.requires g.B.Message.initial c.args.s.now c.lead-first.result.length c.lead-first.ensures.longest
-    (λ x e lt b. subst P c.in_default.is c.lead-first.ensures.found x e)
-
-pub returns-then-n-s : goal.returns-then-n-s
-returns-then-n-s g c =
-    left_decides g.A.Literal.literal g.B.Literal.literal c.args.separator c.requires g.B.Message.initial c.args.s.now c.lead-first.result.length c.lead-first.ensures.longest
-    (λ x e lt b. elim c.then-n-s.branch [ then-n-s-via-then-n-s w ↦ omega (arith, w.if-n-s.true) | then-n-s-via-else-n-s+then-s-n w ↦ w.if-s-n.true b ])
-
--- the left part is whole and the separator follows it
-pub returns-in-Some-value : goal.returns-in-Some-value
-returns-in-Some-value g c =
-    let P : Option g.row.A.Denot → Type 0 = λ o. Found g.A.Literal.literal (take c.lead-first.result.length c.args.s.now) o in
-    let Q : Option g.row.B.Denot → Type 0 = λ o. Leads (joined g.A.Literal.literal c.args.separator g.B.Literal.literal) c.args.s.now (record { length = c.lead-first.result.length + 1 + c.lead-second.result.length; value = with_left c.in-Some.left o }) in
-    subst Q c.in-Some-value.is (right_decides g.A.Literal.literal g.B.Literal.literal c.args.separator c.requires c.args.s.now c.lead-first.result.length c.in-Some.left c.lead-second.result
-    (subst P c.in-Some.is c.lead-first.ensures.found) c.if-n-s.false c.if-s-n.false c.lead-second.ensures)
-
-pub returns-in-None : goal.returns-in-None
-returns-in-None g c =
-    let P : Option g.row.A.Denot → Type 0 = λ o. Found g.A.Literal.literal (take c.lead-first.result.length c.args.s.now) o in
-    let Q : Option g.row.B.Denot → Type 0 = λ o. Leads (joined g.A.Literal.literal c.args.separator g.B.Literal.literal) c.args.s.now (record { length = c.lead-first.result.length + 1 + c.lead-second.result.length; value = with_left c.in-Some.left o }) in
-    subst Q c.in-None.is (right_decides g.A.Literal.literal g.B.Literal.literal c.args.separator c.requires c.args.s.now c.lead-first.result.length c.in-Some.left c.lead-second.result
-    (subst P c.in-Some.is c.lead-first.ensures.found) c.if-n-s.false c.if-s-n.false c.lead-second.ensures)
+    (λ x e rest cut. elim c.in_default.branch [
+      | in_default-via-in-Some+in_default w ↦
+          let apart = strip_prefix_is Decides-eqb (take (length c.args.s.now - c.lead-first.result.length) (drop c.lead-first.result.length c.args.s.now)) (c.args.separator ∷ []) None w.in_default.ensures.cases in
+          apart rest (take_rest c.args.s.now c.lead-first.result.length ∙ cut)
+      | in_default-via-in_default w ↦ subst P w.in_default.is-0 c.lead-first.ensures.found x e
+    ])

@@ -1,4 +1,4 @@
-use Rattle.std.proofs.Common.{not, ◌∷◌, refl, ap, ◌∙◌, arith, length-append}
+use Rattle.std.proofs.Common.{not, refl, ap, ◌∙◌, arith}
 use Rattle.message.proofs.Pages.{has_room, no_room, byte_fits, writes_joined}
 use Rattle.message.proofs.joined.Joined.write.Goals as goal
 use Rattle.message.proofs.joined.Joined.write.Goals.{then-at-page-via-then-at-page, then-at-page-via-else-at-page+then-is_none}
@@ -10,11 +10,6 @@ returns-then-at-page g c = elim c.then-at-page.branch [
       let n = no_room _ _ w.room_after.result (w.is_none.ensures ∙ ap not w.if-is_none.true) (w.room_after.ensures c.args.separator) in
       (omega (arith, n, w.if-at-page.false), refl)
 ]
-
-pub returns-in_err-middle : goal.returns-in_err-middle
-returns-in_err-middle g c =
-    let room = has_room _ _ c.room_after.result (c.is_none.ensures ∙ ap not c.if-is_none.false) (c.room_after.ensures c.args.separator) in
-    absurd (omega (arith, room, c.if-at-page.false, c.in_err-middle.ensures.0, length-append (g.A.Literal.literal c.args.self.left) (c.args.separator ∷ g.B.Literal.literal c.args.self.right)))
 
 pub returns-in_err-right : goal.returns-in_err-right
 returns-in_err-right g c =

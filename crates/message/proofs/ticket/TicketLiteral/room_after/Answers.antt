@@ -9,4 +9,4 @@ use Rattle.message.proofs.ticket.TicketLiteral.room_after.Goals as goal
 pub returns : goal.returns
 returns c =
     let P : Joined Weight Weight → Type 0 = λ j. RoomAfter (joined weight_literal 47 weight_literal j) c.args.room c.room_after.result in
-    subst P c.parts.ensures (c.room_after.ensures 47)
+    subst P c.from.ensures (c.room_after.ensures 47)

@@ -1,22 +1,17 @@
-use Rattle.std.proofs.Common.{◌≡◌, ◌<◌, length, get_or, take, sym, ap, ◌∙◌, arith, w32}
-use Rattle.std.specs.Fmt.{signed_decimal}
-use Rattle.std.proofs.lemmas.Int.{to_z_pos}
-use Rattle.message.specs.Weighing.{plus_longest, never_empty}
+use Rattle.std.proofs.Common.{rules, None, [], ◌∷◌, ap, ◌∙◌, take, drop, length, ◌-◌, ◌-◌, List, ℕ}
+use Rattle.std.proofs.lemmas.Bool.Decides.{Decides-eqb}
+use Rattle.std.proofs.lemmas.Slice.{first_rest}
+use Rattle.std.proofs.lemmas.Slice.Eq.{strip_prefix_is}
+use Rattle.message.specs.Numerals.{LeadsNumber}
+use Rattle.message.proofs.Weighing.{plus_longest, plus_found}
 use Rattle.message.proofs.weight_kind.WeightLiteral.lead.Goals as goal
-use Rattle.message.proofs.weight_kind.WeightLiteral.lead.Goals.{else-s-gt0-via-then-s-gt0+else-s-eq45, else-s-gt0-via-else-s-gt0}
 
-pub returns-then-length-eq0 : goal.returns-then-length-eq0
-returns-then-length-eq0 c =
-    let no : 0 < length c.args.s.now → get_or c.args.s.now 0 0 ≡ 45 → ⊥ = elim c.else-s-gt0.branch [ else-s-gt0-via-then-s-gt0+else-s-eq45 w ↦ λ h e. w.if-s-eq45.false e | else-s-gt0-via-else-s-gt0 w ↦ λ h e. omega (arith, w.if-s-gt0.false) ] in
+pub returns-in-None : goal.returns-in-None
+returns-in-None c =
+    let l : LeadsNumber c.args.s.now 2147483647 c.leading_number-length.result = rw c.unsigned_abs.ensures.value at c.leading_number-length.ensures in
+    let bare = strip_prefix_is Decides-eqb c.args.s.now (45 ∷ []) None c.in-None.ensures.cases in
+    let t : List ℕ = take (length c.args.s.now - 1) (drop 1 c.args.s.now) in
     record {
-      longest = plus_longest c.args.s.now _ _ c.leading_number-length.ensures no;
-      found = λ w e. never_empty w (sym (ap (λ k. take k c.args.s.now) c.if-length-eq0.true) ∙ e);
-    }
-
-pub returns : goal.returns
-returns c =
-    let no : 0 < length c.args.s.now → get_or c.args.s.now 0 0 ≡ 45 → ⊥ = elim c.else-s-gt0.branch [ else-s-gt0-via-then-s-gt0+else-s-eq45 w ↦ λ h e. w.if-s-eq45.false e | else-s-gt0-via-else-s-gt0 w ↦ λ h e. omega (arith, w.if-s-gt0.false) ] in
-    record {
-      longest = plus_longest c.args.s.now _ _ c.leading_number-length.ensures no;
-      found = c.leading_number-length.ensures.some (omega arith) ∙ ap signed_decimal (sym (to_z_pos w32 c.leading_number-length.result.1 (omega (arith, c.leading_number-length.ensures.small))));
+      longest = plus_longest c.args.s.now c.leading_number-length.result l (λ h e. bare t (first_rest c.args.s.now 0 h ∙ ap (λ b. b ∷ t) e));
+      found = plus_found _ c.leading_number-length.result.value c.map.result l.found (λ n w le h. search rules) c.map.ensures.cases;
     }

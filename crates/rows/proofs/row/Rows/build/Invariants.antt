@@ -1,7 +1,8 @@
+use Rattle.std.specs.Prelude.{take}
+use Rattle.grammar.specs.Parts.{parts_of}
 use Rattle.rows.specs.Tables.{table}
 use Rattle.rows.proofs.Building.{SoFar}
-use Rattle.rows.proofs.Pairing.{pairs_rest}
 use Rattle.rows.proofs.row.Rows.build.Given as goal
 
-abbrev pub invariant-loop-token : goal.invariant-loop-token
-invariant-loop-token g l = SoFar g.M.Literal.literal l.tokens l.uses (pairs_rest l.token-iterator) (table l.rows)
+abbrev pub invariant-loop-part : goal.invariant-loop-part
+invariant-loop-part g l = SoFar g.M.Literal.literal (parts_of (take l.part-index l.parts)) (table l.rows)

@@ -1,0 +1,117 @@
+ghost use Rattle.std.specs.Prelude.{◌≡◌, length, IfOk, IfErr};
+ghost use Rattle.tokens.specs.Tokens.{tokens, place_of};
+ghost use Rattle.tokens.specs.Places.{Nowhere};
+ghost use Rattle.passes.specs.Ranges.{IsOutOfRange};
+ghost use Rattle.passes.specs.Names.{Misnamed as IsMisnamed};
+ghost use Rattle.passes.specs.Limits.{IsOverLimit};
+ghost use Rattle.passes.specs.Messages.{NoMessage};
+ghost use Rattle.script.specs.declared.fault.FormFault.TheVariants.{OutOfRange};
+ghost use Rattle.script.specs.declared.fault.NamesFault.TheVariants.{Misnamed, OverLimit};
+ghost use Rattle.script.specs.Checks.{Answers};
+ghost use Rattle.script.specs.Refusals.{IsInScript};
+ghost use Rattle.script.specs.Stages.{Unformed, Formed, KeptBelow, Stage, LiteralStage};
+
+use crate::checked::Checked;
+use crate::fault::{Fault, FormFault, MessageFault, NamesFault};
+use grammar::form::{FormFault as NoScript, parts};
+use grammar::part::Part;
+use message::kind::Message;
+use passes::limits::first_over_limit;
+use passes::literals::first_refused_literal;
+use passes::names::first_misnamed;
+use passes::ranges::first_out_of_range;
+use rows::row::Rows;
+use std::alloc::Global;
+use tokens::token::tokens;
+
+// A text in the form of a script, by its parts.
+#[derive(Drop)]
+pub struct Parsed<'a> {
+    text: &'a [u8],
+    parts: Vec<Part<'a>>,
+    ghost formed: { Formed text.now parts.items },
+}
+
+impl<'a> Parsed<'a> {
+    pub fn new(heap: Global, text: &'a [u8]) -> Result<Parsed<'a>, Fault>
+        ensures text { IfOk result (λ p. p.text.now ≡ text.now) }
+        ensures fault { IfErr result (Unformed text.now) }
+    {
+        let tokens = tokens(heap, text)?;
+        match parts(heap, &tokens) {
+            Ok(parts) => Ok(Parsed { text, parts }),
+            Err(NoScript::Misfit { token }) => {
+                let at = tokens.get(token).map_or(text.len(), |token| token.place());
+                Err(Fault::Form(FormFault::Misfit { at }))
+            }
+            Err(NoScript::Memory) => Err(Fault::Memory),
+        }
+    }
+
+    // The place of a part, or the text's length past the last.
+    fn place(&self, part: usize) -> usize
+        ensures { result ≡ place_of (tokens self.now.text.now) (length self.now.text.now) part }
+    {
+        self.parts
+            .get(part)
+            .map_or(self.text.len(), |part| part.token.place())
+    }
+
+    fn check_ranges(&self) -> Result<(), FormFault>
+        ensures { Stage OutOfRange (IsInScript IsOutOfRange self.now.text.now) result }
+    {
+        match first_out_of_range(&self.parts) {
+            Some(part) => Err(FormFault::OutOfRange {
+                at: self.place(part),
+            }),
+            None => Ok(()),
+        }
+    }
+
+    fn check_names(&self) -> Result<(), NamesFault>
+        ensures { Nowhere (IsInScript IsOutOfRange self.now.text.now) → Stage Misnamed (IsInScript IsMisnamed self.now.text.now) result }
+    {
+        match first_misnamed(&self.parts) {
+            Some(part) => Err(NamesFault::Misnamed {
+                at: self.place(part),
+            }),
+            None => Ok(()),
+        }
+    }
+
+    fn check_limits(&self) -> Result<(), NamesFault>
+        ensures { Stage OverLimit (IsInScript IsOverLimit self.now.text.now) result }
+    {
+        match first_over_limit(&self.parts) {
+            Some(part) => Err(NamesFault::OverLimit {
+                at: self.place(part),
+            }),
+            None => Ok(()),
+        }
+    }
+
+    fn check_literals<M: Message>(&self) -> Result<(), MessageFault>
+        ensures { LiteralStage M.Literal.literal self.now.text.now (IsInScript (NoMessage M.Literal.literal) self.now.text.now) result }
+    {
+        match first_refused_literal::<M>(&self.parts) {
+            Some(refused) => Err(MessageFault::InScript {
+                at: self.place(refused.token),
+                fault: refused.fault,
+            }),
+            None => Ok(()),
+        }
+    }
+
+    // Tries the rules that are beyond the form, and makes the rows where all are kept.
+    pub fn admit<M: Message>(&self, heap: Global) -> Result<Checked<M>, Fault>
+        ensures { KeptBelow M.Literal.literal self.now.text.now 4 → Answers M.Literal.literal self.now.text.now result }
+    {
+        self.check_ranges()?;
+        self.check_names()?;
+        self.check_limits()?;
+        self.check_literals::<M>()?;
+        let rows = Rows::build(heap, &self.parts)?;
+        let text = Vec::from_slice(heap, self.text)?;
+        Ok(Checked { text, rows })
+    }
+}
