@@ -8,3 +8,4 @@ pub mod Verdicts
 pub mod Determined
 pub mod Once
 pub mod Images
+pub mod Props

@@ -3,7 +3,7 @@ use Rattle.std.proofs.Common.{◌≡◌, ℕ, zero, suc, ◌+◌, ◌<◌, ◌�
 use Rattle.std.proofs.lemmas.List.{take-append-drop, take-take, append-nil}
 use Rattle.std.proofs.lemmas.Bool.{cases_lt}
 use Rattle.tokens.specs.Places.{First, Nowhere}
-use Rattle.tokens.specs.Tokens.{Lexeme, tokens, lexemes, place, place_of}
+use Rattle.tokens.specs.Tokens.{Lexeme, Placed, tokens, lexemes, place, place_of}
 use Rattle.tokens.specs.Tokens.{lexeme as bare}
 use Rattle.tokens.specs.declared.token.Token.{Token}
 use Rattle.tokens.specs.Reading.{placed, lexeme}
@@ -140,15 +140,18 @@ nowhere_in_script text us u P none i w =
 
 -- The code's tokens and parts.
 
-pub token_place : (ks : List Token) (end k : ℕ) (d : Token) → k < length ks → place (placed (get_or ks k d)) ≡ place_of (map placed ks) end k
-token_place [] end k d lt = absurd (omega arith)
-token_place (x ∷ ks) end zero d lt = refl
-token_place (x ∷ ks) end (suc k) d lt = token_place ks end k d (omega arith)
+-- the place of the k-th of them, or the text's length past the last
+pub place_at : {X : Type 0} (of : X → Placed) (xs : List X) (end k r : ℕ) → ((d : X) → k < length xs → r ≡ place (of (get_or xs k d))) → (length xs ≤ k → r ≡ end) → r ≡ place_of (map of xs) end k
+place_at of [] end k r here past = past (omega arith)
+place_at of (x ∷ xs) end zero r here past = here x (omega arith)
+place_at of (x ∷ xs) end (suc k) r here past = place_at of xs end k r (λ d lt. here d (omega arith)) (λ le. past (omega arith))
 
-pub no_token_place : (ks : List Token) (end k : ℕ) → length ks ≤ k → end ≡ place_of (map placed ks) end k
-no_token_place [] end k le = refl
-no_token_place (x ∷ ks) end zero le = absurd (omega arith)
-no_token_place (x ∷ ks) end (suc k) le = no_token_place ks end k (omega arith)
+parts_placed : (ps : List code.Part) → map (λ p. placed p.token) ps ≡ map placed (the_tokens ps)
+parts_placed [] = refl
+parts_placed (p ∷ ps) = ap (λ l. placed p.token ∷ l) (parts_placed ps)
+
+pub part_place : (text : List ℕ) (ps qs : List code.Part) → Formed text ps → qs ≡ ps → (k r : ℕ) → r ≡ place_of (map (λ p. placed p.token) qs) (length text) k → r ≡ place_of (tokens text) (length text) k
+part_place text ps qs f same k r e = e ∙ ap (λ ts. place_of ts (length text) k) (ap (map (λ p. placed p.token)) same ∙ parts_placed ps ∙ f.tokens.tokens_are)
 
 map_lexeme : (ks : List Token) → map lexeme ks ≡ map bare (map placed ks)
 map_lexeme [] = refl
@@ -158,44 +161,45 @@ tokens_lexemes : (text : List ℕ) (ks : List Token) → Tokenised text ks → m
 tokens_lexemes text ks t = map_lexeme ks ∙ ap (map bare) t.tokens_are
 
 -- tokens of the text in their parts
-pub formed : (text : List ℕ) (ks : List Token) (ps : List code.Part) → Tokenised text ks → AreParts ks ps → Formed text ps
-formed text ks ps t a =
+pub formed : (text : List ℕ) (ks qs : List Token) (ps : List code.Part) → Tokenised text ks → qs ≡ ks → AreParts qs ps → Formed text ps
+formed text ks qs ps t same a =
     let P : List Lexeme → Type 0 = λ ls. Uses ls (purposes ps) in
-    record { tokens = subst (Tokenised text) (sym a.tokens_are) t; uses = subst P (tokens_lexemes text ks t) a.uses }
+    record { tokens = subst (Tokenised text) (sym (a.tokens_are ∙ same)) t; uses = subst P (ap (map lexeme) same ∙ tokens_lexemes text ks t) a.uses }
 
 pub parts_are : (text : List ℕ) (ps : List code.Part) → Formed text ps → parts_of ps ≡ with_uses (purposes ps) (lexemes text)
 parts_are text ps f = sym (told_together ps) ∙ ap (with_uses (purposes ps)) (tokens_lexemes text (the_tokens ps) f.tokens)
 
 -- What is first among the parts is first in the text, at its place.
 
-pub stage_first : (text : List ℕ) (ps : List code.Part) → Formed text ps → (P : List Part → ℕ → Type 0) (k at : ℕ) → at ≡ place_of (tokens text) (length text) k → First (P (parts_of ps)) k → First (IsInScript P text) at
-stage_first text ps f P k at e first =
-    let Q : List Part → Type 0 = λ qs. First (P qs) k in
-    let R : ℕ → Type 0 = λ i. First (IsInScript P text) i in
-    subst R (sym e) (first_in_script text (purposes ps) f.uses P k (subst Q (parts_are text ps f) first))
+module _ (text : List ℕ) (ps qs : List code.Part) (f : Formed text ps) (same : qs ≡ ps) (P : List Part → ℕ → Type 0) where
+  pub stage_first : (k at : ℕ) → at ≡ place_of (tokens text) (length text) k → First (P (parts_of qs)) k → First (IsInScript P text) at
+  stage_first k at e first =
+      let Q : List Part → Type 0 = λ ts. First (P ts) k in
+      let R : ℕ → Type 0 = λ i. First (IsInScript P text) i in
+      subst R (sym e) (first_in_script text (purposes ps) f.uses P k (subst Q (ap parts_of same ∙ parts_are text ps f) first))
 
-pub stage_nowhere : (text : List ℕ) (ps : List code.Part) → Formed text ps → (P : List Part → ℕ → Type 0) → Nowhere (P (parts_of ps)) → Nowhere (IsInScript P text)
-stage_nowhere text ps f P none =
-    let Q : List Part → Type 0 = λ qs. Nowhere (P qs) in
-    nowhere_in_script text (purposes ps) f.uses P (subst Q (parts_are text ps f) none)
+  pub stage_nowhere : Nowhere (P (parts_of qs)) → Nowhere (IsInScript P text)
+  stage_nowhere none =
+      let Q : List Part → Type 0 = λ ts. Nowhere (P ts) in
+      nowhere_in_script text (purposes ps) f.uses P (subst Q (ap parts_of same ∙ parts_are text ps f) none)
 
-pub nowhere_back : (text : List ℕ) (ps : List code.Part) → Formed text ps → (P : List Part → ℕ → Type 0) → Nowhere (IsInScript P text) → Nowhere (P (parts_of ps))
-nowhere_back text ps f P none k h =
-    let Q : List Part → Type 0 = λ qs. P qs k in
-    none (place_of (tokens text) (length text) k)
-    (record { uses = purposes ps; used = f.uses; token = k; holds = subst Q (parts_are text ps f) h; place = refl })
+  pub nowhere_back : Nowhere (IsInScript P text) → Nowhere (P (parts_of qs))
+  nowhere_back none k h =
+      let Q : List Part → Type 0 = λ ts. P ts k in
+      none (place_of (tokens text) (length text) k)
+      (record { uses = purposes ps; used = f.uses; token = k; holds = subst Q (ap parts_of same ∙ parts_are text ps f) h; place = refl })
 
-pub stage_literal : {M : Type 0} (literal : M → List ℕ) (text : List ℕ) (ps : List code.Part) → Formed text ps → (k at : ℕ) (fault : LiteralFault) → at ≡ place_of (tokens text) (length text) k
-    → Longest literal (bytes (nth (parts_of ps) k)) fault.at → RefusedLiteral literal text at fault
-stage_literal literal text ps f k at fault e longest =
-    let Q : List Part → Type 0 = λ qs. Longest literal (bytes (nth qs k)) fault.at in
-    record { uses = purposes ps; used = f.uses; token = k; place = e; longest = subst Q (parts_are text ps f) longest }
+pub stage_literal : {M : Type 0} (literal : M → List ℕ) (text : List ℕ) (ps qs : List code.Part) → Formed text ps → qs ≡ ps → (k at : ℕ) (fault : LiteralFault) → at ≡ place_of (tokens text) (length text) k
+    → Longest literal (bytes (nth (parts_of qs) k)) fault.at → RefusedLiteral literal text at fault
+stage_literal literal text ps qs f same k at fault e longest =
+    let Q : List Part → Type 0 = λ ts. Longest literal (bytes (nth ts k)) fault.at in
+    record { uses = purposes ps; used = f.uses; token = k; place = e; longest = subst Q (ap parts_of same ∙ parts_are text ps f) longest }
 
 -- The form of the code's tokens is that of the text's.
 
-pub form_first : (text : List ℕ) (ks : List Token) → Tokenised text ks → (k at : ℕ) → at ≡ place_of (map placed ks) (length text) k → MisfitAt (map lexeme ks) k → First (Misfit text) at
-form_first text ks t k at e m =
-    let same : at ≡ place_of (tokens text) (length text) k = e ∙ ap (λ ts. place_of ts (length text) k) t.tokens_are in
+pub form_first : (text : List ℕ) (ks ps qs : List Token) → Tokenised text ks → ps ≡ ks → qs ≡ ks → (k at : ℕ) → at ≡ place_of (map placed ps) (length text) k → MisfitAt (map lexeme qs) k → First (Misfit text) at
+form_first text ks ps qs t pk qk k at e m =
+    let same : at ≡ place_of (tokens text) (length text) k = e ∙ ap (λ ts. place_of ts (length text) k) (ap (map placed) pk ∙ t.tokens_are) in
     let Q : List Lexeme → Type 0 = λ ls. MisfitAt ls k in
     let R : ℕ → Type 0 = λ i. First (Misfit text) i in
-    subst R (sym same) (misfit_first text k (subst Q (tokens_lexemes text ks t) m))
+    subst R (sym same) (misfit_first text k (subst Q (ap (map lexeme) qk ∙ tokens_lexemes text ks t) m))

@@ -112,8 +112,8 @@ admitted literal text ps t f kept copied builds =
     let us = map (λ p. p.purpose) ps in
     let same : parts_of ps ≡ with_uses us (lexemes text) = parts_are text ps f in
     let built = builds f.uses.raw (f.uses.written ∙ sym same)
-    (nowhere_back text ps f IsOutOfRange (kept out_of_range (omega arith)))
-    (nowhere_back text ps f (NoMessage literal) (kept no_message (omega arith))) in
+    (nowhere_back text ps ps f refl IsOutOfRange (kept out_of_range (omega arith)))
+    (nowhere_back text ps ps f refl (NoMessage literal) (kept no_message (omega arith))) in
     record {
       copy = ap or_new copied ∙ some_text text (uses_make_script (lexemes text) us f.uses);
       script = built.script;

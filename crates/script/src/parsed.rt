@@ -10,6 +10,8 @@ ghost use Rattle.script.specs.declared.fault.NamesFault.TheVariants.{Misnamed, O
 ghost use Rattle.script.specs.Checks.{Answers};
 ghost use Rattle.script.specs.Refusals.{IsInScript};
 ghost use Rattle.script.specs.Stages.{Unformed, Formed, KeptBelow, Stage, LiteralStage};
+ghost use Rattle.tokens.proofs.Props.{Tokenised-prop};
+ghost use Rattle.grammar.proofs.Props.{Uses-prop};
 
 use crate::checked::Checked;
 use crate::fault::{Fault, FormFault, MessageFault, NamesFault};
@@ -29,7 +31,7 @@ use tokens::token::tokens;
 pub struct Parsed<'a> {
     text: &'a [u8],
     parts: Vec<Part<'a>>,
-    ghost formed: { Formed text.now parts.items },
+    ghost formed: { Formed text.now parts.items } by { Prim.hlevel (Tokenised-prop, Uses-prop) },
 }
 
 impl<'a> Parsed<'a> {

@@ -2,3 +2,4 @@ pub mod Opening
 pub mod Runs
 pub mod Rising
 pub mod Steps
+pub mod Props
