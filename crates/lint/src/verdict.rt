@@ -1,5 +1,5 @@
 // What is said of a script.
-use grammar::form::uses;
+use grammar::form::parts;
 use grammar::words::{Keyword, PortKind, Use};
 use message::kind::Message;
 use rows::row::Rows;
@@ -40,10 +40,10 @@ fn is_event(purpose: Use) -> bool {
 
 fn count_events(heap: Global, text: &[u8]) -> Result<usize, Fault> {
     let tokens = tokens(heap, text)?;
-    let Ok(uses) = uses(heap, &tokens) else {
+    let Ok(parts) = parts(heap, &tokens) else {
         return Err(Fault::Memory);
     };
-    Ok(uses.iter().filter(|purpose| is_event(**purpose)).count())
+    Ok(parts.iter().filter(|part| is_event(part.purpose)).count())
 }
 
 fn count_ports<M: Message>(rows: &Rows<M>, kind: PortKind) -> usize {

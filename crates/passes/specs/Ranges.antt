@@ -50,5 +50,6 @@ Ranged (Literal u) bs = Unit {0}
 abbrev pub IsOutOfRange : List Part → ℕ → Type 0
 IsOutOfRange ps k = Ranged (nth ps k).purpose (bytes (nth ps k)) → ⊥
 
+-- no number is out of its range
 abbrev pub AllRanged : List Part → Type 0
 AllRanged ps = Nowhere (IsOutOfRange ps)

@@ -8,6 +8,7 @@ mod lines {
     use message::weight::Weight;
     use std::process::Abort;
     use std::test::Fail;
+    use trace::kind::Kind;
     use trace::line::{read_line, write_header, write_line};
     use trace::record::{Event, Record};
 
@@ -17,19 +18,13 @@ mod lines {
         Weight { value }
     }
 
-    // Writes the record and compares its line, then reads the line and writes what was read: no two
-    // records share a line.
+    // Writes the record and compares its line, and reads the line back.
     fn check_back(rt: &impl Abort, record: Record<Weight>, line: &[u8]) -> Result<(), Fail> {
         let mut page = [b'.'; 120];
         let end = write_line(record, &mut page, 0)?;
         assert!(rt; end <= 120);
         assert_eq!(rt; &page[0..end], line);
-        let mut again = [b'.'; 120];
-        assert_eq!(rt;
-            write_line(read_line::<Weight>(line)?, &mut again, 0),
-            Ok(end)
-        );
-        assert_eq!(rt; again, page);
+        assert_eq!(rt; read_line::<Weight>(line), Ok(record));
         Ok(())
     }
 
@@ -110,6 +105,7 @@ mod lines {
             taker_leaf: 5,
             message: weight(600),
         };
+        assert_eq!(rt; pair.kind(), Kind::Pair);
         check_event(&rt, pair, b"7,1500,pair,1,2,3,4,5,600\r\n")?;
         check_event(
             &rt,
