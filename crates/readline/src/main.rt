@@ -16,7 +16,7 @@ fn print_verdict(rt: &impl Print, line: &[u8]) -> io::Result<()> {
     }
 }
 
-fn main(rt: HostRuntime) -> io::Result<()> {
+fn run(rt: &HostRuntime) -> io::Result<()> {
     let mut input = BufReader::new(rt.alloc(), rt.stdin())?;
     let mut line = Vec::new(rt.alloc());
     for _ in 0..MOST_LINES {
@@ -24,7 +24,12 @@ fn main(rt: HostRuntime) -> io::Result<()> {
         if input.read_until(b'\n', &mut line)? == 0 {
             break;
         }
-        print_verdict(&rt, line.as_slice())?;
+        print_verdict(rt, line.as_slice())?;
     }
     Ok(())
+}
+
+fn main(rt: HostRuntime) {
+    // Where nothing can be read or printed there is nobody to tell.
+    let _ = run(&rt);
 }
