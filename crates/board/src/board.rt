@@ -58,7 +58,8 @@ pub trait Board: Sized {
         ensures { result ≡ soonest_closed (rules Timeout) (meaning self.now Timeout) (meaning self.now Timeout).offers };
 }
 
-// Any five kinds.
+// Any five kinds. Each is a type of its own, and commit is generic in the message, so no `dyn` can
+// stand for them: what reaches one of them matches.
 #[derive(Drop)]
 pub struct Five<C, B, I, V, T> {
     channels: C,

@@ -48,6 +48,7 @@ pub fn commit<M: Copy, B: Board>(
     ensures before { take (port_start o.port) cells.new ≡ take (port_start o.port) cells.old }
     ensures behind { drop (port_start o.port + most_held) cells.new ≡ drop (port_start o.port + most_held) cells.old }
 {
-    let start = MOST_TASKS + MOST_HELD * o.port as usize;
+    let start = MOST_TASKS + MOST_HELD * usize::from(o.port);
+    // Not as an array: of what `as_mut_array` lends of this part, only the end's length is known.
     board.commit(kind, o, message, &mut cells[start..start + MOST_HELD])
 }

@@ -1,1 +1,3 @@
-pub mod Loops
+pub mod Waiting
+pub mod Messages
+pub mod Commits

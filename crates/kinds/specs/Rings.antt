@@ -1,11 +1,8 @@
 -- The messages of a port in a ring of its cells.
-use Rattle.std.specs.Prelude.{ℕ, ◌%◌, ◌<◌, ◌≤◌, List, map, slice_index}
+use Rattle.std.specs.Prelude.{ℕ, ◌%◌, List, map}
 use Rattle.std.specs.List.{range_with_len}
 use Rattle.rules.specs.Limits.{most_held}
 
 -- `n` places from the one numbered `f` on, going round
 abbrev pub ring : ℕ → ℕ → List ℕ
 ring f n = map (λ j. j % most_held) (range_with_len f n)
-
-abbrev pub InRings : List ℕ → List ℕ → Type 0
-InRings firsts counts = (p : ℕ) → (slice_index firsts p < most_held) × (slice_index counts p ≤ most_held)

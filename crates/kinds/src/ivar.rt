@@ -1,7 +1,7 @@
 ghost use Rattle.std.specs.Prelude.{true};
 ghost use Rattle.rules.specs.Delivered as delivered;
-ghost use Rattle.std.proofs.Common.{arith, rules};
-ghost use Rattle.grammar.specs.declared.words.PortKind.TheVariants as Thevariants;
+ghost use Rattle.std.proofs.Common.{lit<, lit≤};
+ghost use Rattle.grammar.specs.declared.words.PortKind.TheVariants.{Ivar as IvarKind};
 ghost use Rattle.rules.specs.declared.kind.BaseKind.TheVariants.{Port};
 ghost use Rattle.rules.specs.Limits.{most_held};
 ghost use Rattle.rules.proofs.DeliveredKinds.{delivered_lawful};
@@ -18,21 +18,17 @@ pub struct IvarRule;
 impl Rule for IvarRule {
     ghost rules = { delivered.ivar };
 
-    ghost room = { 1 };
+    ghost ROOM = { 1 };
 
-    ghost keeps = { true };
+    ghost KEEPS = { true };
 
-    ghost lawful = { delivered_lawful most_held (omega arith) (Port Thevariants.Ivar) };
+    ghost lawful = { delivered_lawful most_held (lit< tt) (Port IvarKind) };
 
-    ghost few = { Prim.search rules };
+    ghost few = { lit≤ tt };
 
     ghost holds = { holder_variable true };
 
-    fn room() -> u32 {
-        1
-    }
+    const ROOM: usize = 1;
 
-    fn keeps() -> bool {
-        true
-    }
+    const KEEPS: bool = true;
 }

@@ -2,7 +2,7 @@ ghost use Rattle.std.specs.Prelude.{◌≡◌, ℕ, ◌<◌, length, IfOk};
 ghost use Rattle.rules.specs.Limits.{most_ports, most_held};
 ghost use Rattle.rules.specs.Kinds.{Meaning, Kind as Rules, Lawful, accepts, enrolled, withdrawn, told, polled};
 ghost use Rattle.kinds.specs.Stores.{Fresh, Within, Committed};
-ghost use Rattle.rules.specs.Able.{sooner_of, soonest_closed};
+ghost use Rattle.rules.specs.Able.{soonest_closed};
 
 use rules::offer::{Offer, Reply};
 use std::alloc::{AllocError, Global};
@@ -43,6 +43,7 @@ pub trait Kind: Sized {
         ensures { result ≡ polled rules (meaning self.now) o };
 
     // Carries out poll's reply, in the cells of the offer's port, and replies with what a take got.
+    // The port's bound is asked here alone: a type of ports below 16 would ask it of enrol and poll.
     fn commit<M: Copy>(&mut self, o: Offer, message: M, cells: &mut [M]) -> Option<M>
         requires port { o.port < most_ports }
         requires cells { length cells.old ≡ most_held }
@@ -58,25 +59,13 @@ pub trait Kind: Sized {
     ghost within: { (s : Self) → Within (meaning s) };
 }
 
-// The smaller of a due time and perhaps another.
-fn sooner_of(due: u64, other: Option<u64>) -> Option<u64>
-    ensures { result ≡ sooner_of due other }
-{
-    match other {
-        Some(time) => Some(due.min(time)),
-        None => Some(due),
-    }
-}
-
 // The soonest due time of the offers that wait and are closed.
 pub fn soonest_closed<K: Kind>(kind: &K) -> Option<u64>
     ensures { result ≡ soonest_closed K.Kind.rules (K.Kind.meaning kind.now) (K.Kind.meaning kind.now).offers }
 {
-    let mut soonest = None;
-    for o in kind.waiting() {
-        if let Reply::Closed = kind.poll(*o) {
-            soonest = sooner_of(o.due, soonest);
-        }
-    }
-    soonest
+    kind.waiting()
+        .iter()
+        .filter(|o| kind.poll(**o) == Reply::Closed)
+        .map(|o| o.due)
+        .min()
 }

@@ -1,8 +1,8 @@
 ghost use Rattle.std.specs.Prelude.{false};
 ghost use Rattle.rules.specs.Delivered as delivered;
 ghost use Rattle.rules.specs.Limits.{most_held};
-ghost use Rattle.std.proofs.Common.{arith, rules};
-ghost use Rattle.grammar.specs.declared.words.PortKind.TheVariants as Thevariants;
+ghost use Rattle.std.proofs.Common.{lit<, lit≤, refl};
+ghost use Rattle.grammar.specs.declared.words.PortKind.TheVariants.{Mailbox as MailboxKind};
 ghost use Rattle.rules.specs.declared.kind.BaseKind.TheVariants.{Port};
 ghost use Rattle.rules.proofs.DeliveredKinds.{delivered_lawful};
 
@@ -18,21 +18,17 @@ pub struct MailboxRule;
 impl Rule for MailboxRule {
     ghost rules = { delivered.mailbox most_held };
 
-    ghost room = { most_held };
+    ghost ROOM = { most_held };
 
-    ghost keeps = { false };
+    ghost KEEPS = { false };
 
-    ghost lawful = { delivered_lawful most_held (omega arith) (Port Thevariants.Mailbox) };
+    ghost lawful = { delivered_lawful most_held (lit< tt) (Port MailboxKind) };
 
-    ghost few = { Prim.search rules };
+    ghost few = { lit≤ tt };
 
-    ghost holds = { Prim.search rules };
+    ghost holds = { refl };
 
-    fn room() -> u32 {
-        MOST_HELD as u32
-    }
+    const ROOM: usize = MOST_HELD;
 
-    fn keeps() -> bool {
-        false
-    }
+    const KEEPS: bool = false;
 }

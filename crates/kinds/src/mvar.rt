@@ -1,7 +1,7 @@
 ghost use Rattle.std.specs.Prelude.{false};
 ghost use Rattle.rules.specs.Delivered as delivered;
-ghost use Rattle.std.proofs.Common.{arith, rules};
-ghost use Rattle.grammar.specs.declared.words.PortKind.TheVariants as Thevariants;
+ghost use Rattle.std.proofs.Common.{lit<, lit≤};
+ghost use Rattle.grammar.specs.declared.words.PortKind.TheVariants.{Mvar as MvarKind};
 ghost use Rattle.rules.specs.declared.kind.BaseKind.TheVariants.{Port};
 ghost use Rattle.rules.specs.Limits.{most_held};
 ghost use Rattle.rules.proofs.DeliveredKinds.{delivered_lawful};
@@ -18,21 +18,17 @@ pub struct MvarRule;
 impl Rule for MvarRule {
     ghost rules = { delivered.mvar };
 
-    ghost room = { 1 };
+    ghost ROOM = { 1 };
 
-    ghost keeps = { false };
+    ghost KEEPS = { false };
 
-    ghost lawful = { delivered_lawful most_held (omega arith) (Port Thevariants.Mvar) };
+    ghost lawful = { delivered_lawful most_held (lit< tt) (Port MvarKind) };
 
-    ghost few = { Prim.search rules };
+    ghost few = { lit≤ tt };
 
     ghost holds = { holder_variable false };
 
-    fn room() -> u32 {
-        1
-    }
+    const ROOM: usize = 1;
 
-    fn keeps() -> bool {
-        false
-    }
+    const KEEPS: bool = false;
 }

@@ -7,21 +7,19 @@ ghost use Rattle.kinds.specs.Holders.{holder};
 pub trait Rule: Sized {
     ghost rules: { Rules };
 
+    ghost ROOM: { ℕ };
+
+    ghost KEEPS: { Bool };
+
     // A give is open while fewer than so many are held.
-    ghost room: { ℕ };
+    const ROOM: usize;
 
     // Whether a take leaves the message where it is.
-    ghost keeps: { Bool };
-
-    fn room() -> u32
-        ensures { result ≡ room };
-
-    fn keeps() -> bool
-        ensures { result ≡ keeps };
+    const KEEPS: bool;
 
     ghost lawful: { Lawful most_held rules };
 
-    ghost few: { room ≤ most_held };
+    ghost few: { ROOM ≤ most_held };
 
-    ghost holds: { holder room keeps ≡ rules };
+    ghost holds: { holder ROOM KEEPS ≡ rules };
 }

@@ -7,15 +7,8 @@ mod examples {
     use rules::offer::{Offer, Reply, Side};
     use std::process::Abort;
 
-    // How an offer stands: closed, alone, or with a leaf of another sync.
-    pub type Stand = Option<Option<(u32, u8)>>;
-
-    pub const CLOSED: Stand = None;
-
-    pub const ALONE: Stand = Some(None);
-
-    pub fn with(sync: u32, leaf: u8) -> Stand {
-        Some(Some((sync, leaf)))
+    pub fn with(sync: u32, leaf: u8) -> Reply {
+        Reply::With { sync, leaf }
     }
 
     pub fn give(sync: u32, leaf: u8, port: u8) -> Offer {
@@ -60,17 +53,9 @@ mod examples {
         }
     }
 
-    fn stand<K: Kind>(kind: &K, o: Offer) -> Stand {
-        match kind.poll(o) {
-            Reply::Closed => CLOSED,
-            Reply::Alone => ALONE,
-            Reply::With { sync, leaf } => with(sync, leaf),
-        }
-    }
-
-    pub fn check_stand<K: Kind>(rt: &impl Abort, kind: &K, stands: &[(Offer, Stand)]) {
+    pub fn check_stand<K: Kind>(rt: &impl Abort, kind: &K, stands: &[(Offer, Reply)]) {
         for (o, want) in stands {
-            assert_eq!(rt; stand(kind, *o), *want);
+            assert_eq!(rt; kind.poll(*o), *want);
         }
     }
 
@@ -169,10 +154,11 @@ mod offers_tests {
 
 #[cfg(test)]
 mod channel_tests {
-    use crate::examples::{CLOSED, check_commit, check_enrol, check_stand, give, take, with};
+    use crate::examples::{check_commit, check_enrol, check_stand, give, take, with};
     use kinds::channel::Channel;
     use kinds::kind::Kind;
     use rules::offer::Offer;
+    use rules::offer::Reply::Closed;
     use std::test::Fail;
 
     // The sides of one sync never pair.
@@ -181,14 +167,14 @@ mod channel_tests {
         let mut channels = Channel::fresh(rt.alloc())?;
         let (own_give, own_take, other) = (give(5, 0, 2), take(5, 1, 2), take(6, 1, 2));
         check_enrol(&rt, &mut channels, &[own_give, own_take]);
-        check_stand(&rt, &channels, &[(own_give, CLOSED), (own_take, CLOSED)]);
+        check_stand(&rt, &channels, &[(own_give, Closed), (own_take, Closed)]);
         check_enrol(&rt, &mut channels, &[other]);
         check_stand(
             &rt,
             &channels,
             &[
                 (own_give, with(6, 1)),
-                (own_take, CLOSED),
+                (own_take, Closed),
                 (other, with(5, 0)),
             ],
         );
@@ -213,7 +199,7 @@ mod channel_tests {
             (give(5, 1, 2), with(7, 2)),
             (give(6, 0, 2), with(7, 2)),
             (take(9, 3, 2), with(1, 1)),
-            (take(1, 0, 3), CLOSED),
+            (take(1, 0, 3), Closed),
         ];
         check_stand(&rt, &channels, &stands);
         channels.withdraw(7);
@@ -227,7 +213,7 @@ mod channel_tests {
         check_stand(
             &rt,
             &channels,
-            &[(give(6, 0, 2), CLOSED), (take(9, 3, 2), CLOSED)],
+            &[(give(6, 0, 2), Closed), (take(9, 3, 2), Closed)],
         );
         Ok(())
     }
@@ -243,11 +229,11 @@ mod channel_tests {
         };
         let stands = [
             (give(5, 0, 2), with(6, 1)),
-            (give(4, 0, 2), CLOSED),
-            (give(5, 1, 2), CLOSED),
-            (give(5, 0, 3), CLOSED),
-            (take(5, 0, 2), CLOSED),
-            (late, CLOSED),
+            (give(4, 0, 2), Closed),
+            (give(5, 1, 2), Closed),
+            (give(5, 0, 3), Closed),
+            (take(5, 0, 2), Closed),
+            (late, Closed),
         ];
         check_stand(&rt, &channels, &stands);
         Ok(())
@@ -274,11 +260,12 @@ mod channel_tests {
 
 #[cfg(test)]
 mod holder_tests {
-    use crate::examples::{ALONE, CLOSED, check_commit, check_enrol, check_stand, give, take};
+    use crate::examples::{check_commit, check_enrol, check_stand, give, take};
     use kinds::ivar::Ivar;
     use kinds::kind::Kind;
     use kinds::mailbox::Mailbox;
     use kinds::mvar::Mvar;
+    use rules::offer::Reply::{Alone, Closed};
     use rules::offer::{Offer, Side};
     use std::process::Abort;
     use std::test::Fail;
@@ -302,18 +289,18 @@ mod holder_tests {
     // Gives the messages from 0 on.
     fn check_given(rt: &impl Abort, mailboxes: &mut Mailbox, cells: &mut [u32; 32], count: u32) {
         for message in 0..count {
-            check_stand(rt, mailboxes, &[(GIVE, ALONE)]);
+            check_stand(rt, mailboxes, &[(GIVE, Alone)]);
             check_commit(rt, mailboxes, cells, &[(GIVE, message, None)]);
-            check_stand(rt, mailboxes, &[(TAKE, ALONE)]);
+            check_stand(rt, mailboxes, &[(TAKE, Alone)]);
         }
     }
 
     // Takes the messages from 0 on.
     fn check_taken(rt: &impl Abort, mailboxes: &mut Mailbox, cells: &mut [u32; 32], count: u32) {
         for message in 0..count {
-            check_stand(rt, mailboxes, &[(TAKE, ALONE)]);
+            check_stand(rt, mailboxes, &[(TAKE, Alone)]);
             check_commit(rt, mailboxes, cells, &[(TAKE, 99, Some(message))]);
-            check_stand(rt, mailboxes, &[(GIVE, ALONE)]);
+            check_stand(rt, mailboxes, &[(GIVE, Alone)]);
         }
     }
 
@@ -324,13 +311,13 @@ mod holder_tests {
         let mut cells = [0; 32];
         check_enrol(&rt, &mut mailboxes, &[GIVE, TAKE]);
         for count in [0, 1, 31, 32] {
-            check_stand(&rt, &mailboxes, &[(GIVE, ALONE), (TAKE, CLOSED)]);
+            check_stand(&rt, &mailboxes, &[(GIVE, Alone), (TAKE, Closed)]);
             check_given(&rt, &mut mailboxes, &mut cells, count);
             check_taken(&rt, &mut mailboxes, &mut cells, count);
             check_commit(&rt, &mut mailboxes, &mut cells, &[(TAKE, 99, None)]);
         }
         check_given(&rt, &mut mailboxes, &mut cells, 32);
-        check_stand(&rt, &mailboxes, &[(GIVE, CLOSED), (TAKE, ALONE)]);
+        check_stand(&rt, &mailboxes, &[(GIVE, Closed), (TAKE, Alone)]);
         check_commit(&rt, &mut mailboxes, &mut cells, &[(GIVE, 99, None)]);
         check_taken(&rt, &mut mailboxes, &mut cells, 32);
         Ok(())
@@ -350,7 +337,7 @@ mod holder_tests {
                 &mut cells,
                 &[(GIVE, message + 31, None)],
             );
-            check_stand(&rt, &mailboxes, &[(GIVE, CLOSED)]);
+            check_stand(&rt, &mailboxes, &[(GIVE, Closed)]);
             check_commit(&rt, &mut mailboxes, &mut cells, &[(TAKE, 0, Some(message))]);
         }
         Ok(())
@@ -374,15 +361,15 @@ mod holder_tests {
             &[(give(1, 0, 4), 7, None), (take(3, 0, 4), 0, None)],
         );
         let stands = [
-            (take(1, 1, 4), ALONE),
-            (take(2, 0, 5), CLOSED),
-            (take(2, 1, 16), CLOSED),
-            (give(2, 2, 255), ALONE),
-            (take(3, 0, 4), CLOSED),
+            (take(1, 1, 4), Alone),
+            (take(2, 0, 5), Closed),
+            (take(2, 1, 16), Closed),
+            (give(2, 2, 255), Alone),
+            (take(3, 0, 4), Closed),
         ];
         check_stand(&rt, &mailboxes, &stands);
         mailboxes.withdraw(1);
-        check_stand(&rt, &mailboxes, &[(take(1, 1, 4), CLOSED)]);
+        check_stand(&rt, &mailboxes, &[(take(1, 1, 4), Closed)]);
         check_enrol(&rt, &mut mailboxes, &[take(3, 0, 4)]);
         check_commit(
             &rt,
@@ -399,21 +386,21 @@ mod holder_tests {
         let mut ivars = Ivar::fresh(rt.alloc())?;
         let mut cells = [0; 32];
         check_enrol(&rt, &mut ivars, &[GIVE, TAKE]);
-        check_stand(&rt, &ivars, &[(GIVE, ALONE), (TAKE, CLOSED)]);
+        check_stand(&rt, &ivars, &[(GIVE, Alone), (TAKE, Closed)]);
         check_commit(
             &rt,
             &mut ivars,
             &mut cells,
             &[(TAKE, 0, None), (GIVE, 7, None), (GIVE, 8, None)],
         );
-        check_stand(&rt, &ivars, &[(GIVE, CLOSED), (TAKE, ALONE)]);
+        check_stand(&rt, &ivars, &[(GIVE, Closed), (TAKE, Alone)]);
         check_commit(
             &rt,
             &mut ivars,
             &mut cells,
             &[(TAKE, 0, Some(7)), (TAKE, 0, Some(7)), (GIVE, 8, None)],
         );
-        check_stand(&rt, &ivars, &[(GIVE, CLOSED), (TAKE, ALONE)]);
+        check_stand(&rt, &ivars, &[(GIVE, Closed), (TAKE, Alone)]);
         Ok(())
     }
 
@@ -424,14 +411,14 @@ mod holder_tests {
         let mut cells = [0; 32];
         check_enrol(&rt, &mut mvars, &[GIVE, TAKE]);
         for message in 0..40 {
-            check_stand(&rt, &mvars, &[(GIVE, ALONE), (TAKE, CLOSED)]);
+            check_stand(&rt, &mvars, &[(GIVE, Alone), (TAKE, Closed)]);
             check_commit(
                 &rt,
                 &mut mvars,
                 &mut cells,
                 &[(TAKE, 0, None), (GIVE, message, None), (GIVE, 99, None)],
             );
-            check_stand(&rt, &mvars, &[(GIVE, CLOSED), (TAKE, ALONE)]);
+            check_stand(&rt, &mvars, &[(GIVE, Closed), (TAKE, Alone)]);
             check_commit(
                 &rt,
                 &mut mvars,
@@ -445,9 +432,10 @@ mod holder_tests {
 
 #[cfg(test)]
 mod timeout_tests {
-    use crate::examples::{ALONE, CLOSED, check_commit, check_enrol, check_stand, due, give};
+    use crate::examples::{check_commit, check_enrol, check_stand, due, give};
     use kinds::kind::{Kind, soonest_closed};
     use kinds::timeout::Timeout;
+    use rules::offer::Reply::{Alone, Closed};
     use std::test::Fail;
 
     const LAST: u64 = 4294967295;
@@ -465,21 +453,21 @@ mod timeout_tests {
         check_stand(
             &rt,
             &timeouts,
-            &[(due(1, 0, 0), ALONE), (before, CLOSED), (now, CLOSED)],
+            &[(due(1, 0, 0), Alone), (before, Closed), (now, Closed)],
         );
         timeouts.tell(1000);
         check_stand(
             &rt,
             &timeouts,
-            &[(before, ALONE), (now, ALONE), (after, CLOSED)],
+            &[(before, Alone), (now, Alone), (after, Closed)],
         );
         check_stand(
             &rt,
             &timeouts,
             &[
-                (give(2, 0, 0), CLOSED),
-                (due(1, 3, 1000), CLOSED),
-                (due(3, 0, 9), CLOSED),
+                (give(2, 0, 0), Closed),
+                (due(1, 3, 1000), Closed),
+                (due(3, 0, 9), Closed),
             ],
         );
         let mut cells = [0; 32];
@@ -490,7 +478,7 @@ mod timeout_tests {
             &[(now, 9, None), (after, 9, None)],
         );
         assert_eq!(rt; cells, [0; 32]);
-        check_stand(&rt, &timeouts, &[(now, ALONE), (after, CLOSED)]);
+        check_stand(&rt, &timeouts, &[(now, Alone), (after, Closed)]);
         Ok(())
     }
 
@@ -504,14 +492,14 @@ mod timeout_tests {
         check_stand(
             &rt,
             &timeouts,
-            &[(last, CLOSED), (after, CLOSED), (never, CLOSED)],
+            &[(last, Closed), (after, Closed), (never, Closed)],
         );
         assert_eq!(rt; soonest_closed(&timeouts), Some(LAST));
         timeouts.tell(4294967295);
         check_stand(
             &rt,
             &timeouts,
-            &[(last, ALONE), (after, CLOSED), (never, CLOSED)],
+            &[(last, Alone), (after, Closed), (never, Closed)],
         );
         assert_eq!(rt; soonest_closed(&timeouts), Some(LAST + 1));
         Ok(())

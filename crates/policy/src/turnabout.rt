@@ -1,6 +1,6 @@
 ghost use Rattle.std.specs.Prelude.{◌≡◌, false};
 ghost use Rattle.policy.specs.Turns.{end_place, turned, turnabout};
-ghost use Rattle.std.proofs.Common.{rules};
+ghost use Rattle.std.proofs.Common.{rules as std_rules};
 
 use crate::policy::Policy;
 use replay::candidate::Candidate;
@@ -34,7 +34,7 @@ impl Turnabout {
 impl Policy for Turnabout {
     ghost rules = { turnabout };
 
-    ghost inside = { Prim.search rules };
+    ghost inside = { Prim.search std_rules };
 
     fn name_task(&mut self, able: &[Candidate]) -> usize {
         self.turn(able.len())

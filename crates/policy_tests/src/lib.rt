@@ -16,9 +16,9 @@ mod policies {
     // which was idle for longer.
     fn crowd(idle: usize) -> [Candidate; 64] {
         let mut tasks = [able(1, 100); 64];
-        for place in 0..64 {
+        for (number, (place, task)) in (1..).zip(tasks.iter_mut().enumerate()) {
             let stamp = if place == idle { 99 } else { 100 };
-            tasks[place] = able(place as u32 + 1, stamp);
+            *task = able(number, stamp);
         }
         tasks
     }

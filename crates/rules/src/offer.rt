@@ -1,12 +1,12 @@
 // Which way a message goes.
-#[derive(Clone, Copy)]
+#[derive(Clone, Copy, Debug, PartialEq, Eq)]
 pub enum Side {
     Give,
     Take,
 }
 
 // What one leaf of a sync offers at a base event kind.
-#[derive(Clone, Copy)]
+#[derive(Clone, Copy, Debug, PartialEq, Eq)]
 pub struct Offer {
     pub sync: u32,
     pub leaf: u8,
@@ -18,7 +18,7 @@ pub struct Offer {
 }
 
 // What a poll of an offer replies.
-#[derive(Clone, Copy)]
+#[derive(Clone, Copy, Debug, PartialEq, Eq)]
 pub enum Reply {
     Closed,
     // Open by itself.

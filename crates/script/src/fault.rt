@@ -7,28 +7,28 @@ use std::alloc::AllocError;
 use tokens::text::TextFault;
 
 // The tokens are no script, or a number is out of its range.
-#[derive(Clone, Copy, Debug, PartialEq)]
+#[derive(Clone, Copy, Debug, PartialEq, Eq)]
 pub enum FormFault {
     Misfit { at: usize },
     OutOfRange { at: usize },
 }
 
 // A port or a body is declared again or not at all, or there are too many of something.
-#[derive(Clone, Copy, Debug, PartialEq)]
+#[derive(Clone, Copy, Debug, PartialEq, Eq)]
 pub enum NamesFault {
     Misnamed { at: usize },
     OverLimit { at: usize },
 }
 
 // A literal is not one of the message kind's, in the script or in a post.
-#[derive(Clone, Copy, Debug, PartialEq)]
+#[derive(Clone, Copy, Debug, PartialEq, Eq)]
 pub enum MessageFault {
     InScript { at: usize, fault: LiteralFault },
     InPost { fault: LiteralFault },
 }
 
 // Why a script is refused, by the layer that found it; or there was no memory to check it.
-#[derive(Clone, Copy, Debug, PartialEq)]
+#[derive(Clone, Copy, Debug, PartialEq, Eq)]
 pub enum Fault {
     Text(TextFault),
     Form(FormFault),

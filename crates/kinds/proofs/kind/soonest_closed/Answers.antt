@@ -1,25 +1,19 @@
-use Rattle.std.proofs.Common.{sym, ap, ◌∙◌}
-use Rattle.std.proofs.lemmas.List.{at_drop_all}
-use Rattle.rules.specs.Able.{soonest_closed}
-use Rattle.kinds.proofs.Loops.{or_sooner, or_sooner_none, soonest_closed_more, soonest_closed_same}
+use Rattle.std.proofs.Common.{◌≡◌, not, map, filter, min, sym, ap, ◌∙◌, rules, tests}
+use Rattle.std.specs.Option.{option_map}
+use Rattle.std.specs.List.{reduce}
+use Rattle.std.proofs.lemmas.Iterator.{YieldsList-from_slice, YieldsList-from_map}
+use Rattle.std.proofs.lemmas.Iterator.Adapters.{option_map_id}
+use Rattle.std.proofs.lemmas.Iterator.Consumers.{YieldsList-from_filter, YieldsList-at, min_from_yields_List}
+use Rattle.rules.specs.Kinds.{polled}
+use Rattle.rules.specs.Able.{opens, soonest_closed}
+use Rattle.kinds.proofs.Waiting.{closed_shut, closed_dues}
 use Rattle.kinds.proofs.kind.soonest_closed.Goals as goal
-use Rattle.kinds.proofs.kind.soonest_closed.Goals.{in-Closed, in_default}
-
-pub loop-o-init : goal.loop-o-init
-loop-o-init g c = ap (soonest_closed g.K.Kind.rules (g.K.Kind.meaning c.args.kind.now)) c.waiting-o-items.ensures
-
-pub loop-o-preserved : goal.loop-o-preserved
-loop-o-preserved g c =
-    let K = g.K.Kind.rules in
-    let μ = g.K.Kind.meaning c.args.kind.now in
-    let os = c.waiting-o-items.result.now in
-    elim c.match-poll.branch [
-      | in-Closed w ↦ soonest_closed_more K μ os c.loop-o.o-index _ c.loop-o-test.true c.loop-o.soonest c.match-poll.soonest w.sooner_of-soonest.result w.soonest-is w.sooner_of-soonest.ensures w.in-Closed.ensures ∙ c.loop-o.invariant
-      | in_default w ↦ soonest_closed_same K μ os c.loop-o.o-index _ c.loop-o-test.true c.loop-o.soonest c.match-poll.soonest c.poll.result w.soonest-is c.poll.ensures w.in_default.not-Closed ∙ c.loop-o.invariant
-    ]
 
 pub returns : goal.returns
 returns g c =
-    sym (or_sooner_none c.loop-o.soonest)
-    ∙ (sym (at_drop_all (λ os. or_sooner c.loop-o.soonest (soonest_closed g.K.Kind.rules (g.K.Kind.meaning c.args.kind.now) os)) c.waiting-o-items.result.now c.loop-o.o-index c.loop-o-test.false)
-    ∙ c.loop-o.invariant)
+    let K = g.K.Kind.rules in
+    let μ = g.K.Kind.meaning c.args.kind.now in
+    let least : option_map (λ n. n) c.min.result ≡ reduce min (map (λ o. o.due) (filter (λ o. not (opens (polled K μ o))) c.waiting.result.now)) =
+    min_from_yields_List c.map.result _ c.min.ensures.ran
+    (YieldsList-from_map _ (λ o. o.due) (YieldsList-at c.map.ensures.source (YieldsList-from_filter _ (λ o. not (opens (polled K μ o))) (YieldsList-from_slice c.waiting.result.now cc) c.filter.ensures.closure (λ x r q k. search (rules, tests, closed_shut)))) c.map.ensures.closure (λ x r q k. search (rules, tests))) in
+    sym (option_map_id _) ∙ (least ∙ (closed_dues K μ _ ∙ ap (soonest_closed K μ) c.waiting.ensures))

@@ -1,0 +1,77 @@
+ghost use Rattle.std.specs.Prelude.{◌≡◌, false, []};
+ghost use Rattle.rules.specs.Limits.{most_held};
+ghost use Rattle.rules.specs.Kinds.{Kind as Rules, Lawful};
+ghost use Rattle.rules.specs.Delivered.{if_waits};
+ghost use Rattle.std.proofs.Common.{rules as std_rules};
+
+use crate::kind::Kind;
+use crate::offers::Offers;
+use rules::offer::{Offer, Reply};
+use std::alloc::{AllocError, Global};
+use std::marker::PhantomData;
+
+// How a kind that holds nothing differs from others that do not.
+pub trait BareRule: Sized {
+    ghost rules: { Rules };
+
+    // How an offer stands, if it waits.
+    fn reply(waiting: &[Offer], clock: u32, o: Offer) -> Reply
+        ensures { if_waits o waiting.now result ≡ rules.poll waiting.now (λ p. 0) clock o };
+
+    ghost lawful: { Lawful most_held rules };
+
+    ghost holds: { rules.holds ≡ false };
+}
+
+// A kind that holds nothing, by its rule.
+#[derive(Drop)]
+pub struct Bare<R> {
+    offers: Offers,
+    rule: PhantomData<R>,
+}
+
+impl<R: BareRule> Kind for Bare<R> {
+    ghost meaning = { λ s. record { offers = s.offers.list.items; held = λ p. []; clock = s.offers.clock } };
+
+    ghost rules = { R.BareRule.rules };
+
+    ghost lawful = { R.BareRule.lawful };
+
+    ghost within = { Prim.search std_rules };
+
+    fn fresh(heap: Global) -> Result<Self, AllocError> {
+        let offers = Offers::new(heap)?;
+        Ok(Bare {
+            offers,
+            rule: PhantomData,
+        })
+    }
+
+    fn enrol(&mut self, o: Offer) -> bool {
+        self.offers.enrol(o)
+    }
+
+    fn withdraw(&mut self, sync: u32) {
+        self.offers.withdraw(sync);
+    }
+
+    fn tell(&mut self, ms: u32) {
+        self.offers.clock = ms;
+    }
+
+    fn poll(&self, o: Offer) -> Reply {
+        if self.offers.has(o) {
+            R::reply(&self.offers.list, self.offers.clock, o)
+        } else {
+            Reply::Closed
+        }
+    }
+
+    fn commit<M: Copy>(&mut self, _o: Offer, _message: M, _cells: &mut [M]) -> Option<M> {
+        None
+    }
+
+    fn waiting(&self) -> &[Offer] {
+        &self.offers.list
+    }
+}

@@ -1,7 +1,0 @@
-use Rattle.std.proofs.Common.{◌≡◌, ◌<◌, get_or, drop}
-use Rattle.replay.specs.Policies.{idlest, idlest_after}
-use Rattle.policy.proofs.longest_idle.idlest.Given as goal
-
-abbrev pub invariant-loop-i : goal.invariant-loop-i
-invariant-loop-i l =
-    (l.best < l.i) × (idlest l.able ≡ idlest_after l.best (get_or l.able l.best (record { task = 0; stamp = 0 })) l.i (drop l.i l.able))
