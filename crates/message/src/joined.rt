@@ -27,7 +27,10 @@ impl<A: Literal, B: Message> Joined<A, B> {
     pub fn write(self, separator: u8, page: &mut [u8], at: usize) -> Result<usize, PageFull>
         ensures { Writes page.old at (literals A.Literal.literal separator B.Literal.literal self) page.new result }
     {
-        if at > page.len() || self.room_after(page.len() - at).is_none() {
+        let Some(room) = page.len().checked_sub(at) else {
+            return Err(PageFull);
+        };
+        if let None = self.room_after(room) {
             return Err(PageFull);
         }
         let middle = self.left.write(page, at)?;
