@@ -1,8 +1,8 @@
 -- From what each pass finds among the tokens to what holds of the text.
-use Rattle.std.proofs.Common.{◌≡◌, ℕ, zero, suc, ◌+◌, ◌<◌, ◌≤◌, List, [], ◌∷◌, ◌++◌, map, length, get_or, take, drop, sym, refl, ap, ◌∙◌, subst, inl, inr, append_assoc, arith}
+use Rattle.std.proofs.Common.{◌≡◌, ℕ, zero, suc, ◌+◌, ◌<◌, ◌≤◌, List, [], ◌∷◌, ◌++◌, map, length, get_or, take, drop, Some, None, Ok, Err, Option, Result, sym, refl, ap, ◌∙◌, subst, inl, inr, append_assoc, arith}
 use Rattle.std.proofs.lemmas.List.{take-append-drop, take-take, append-nil}
-use Rattle.std.proofs.lemmas.Bool.{cases_lt}
-use Rattle.tokens.specs.Places.{First, Nowhere}
+use Rattle.std.proofs.lemmas.Bool.{cases_lt, false≢true}
+use Rattle.tokens.specs.Places.{First, Nowhere, Smallest}
 use Rattle.tokens.specs.Tokens.{Lexeme, Placed, tokens, lexemes, place, place_of}
 use Rattle.tokens.specs.Tokens.{lexeme as bare}
 use Rattle.tokens.specs.declared.token.Token.{Token}
@@ -22,7 +22,7 @@ use Rattle.message.specs.declared.literal.LiteralFault.{LiteralFault}
 use Rattle.message.specs.Literals.{Longest}
 use Rattle.script.specs.declared.fault.Fault.{Fault}
 use Rattle.script.specs.Refusals.{Rule, too_long, foreign_byte, too_deep, misfit, out_of_range, misnamed, over_limit, no_message, rule_number, Broken, IsInScript, Refused, RefusedLiteral}
-use Rattle.script.specs.Stages.{KeptBelow, Breaks, Formed}
+use Rattle.script.specs.Stages.{KeptBelow, Breaks, Formed, FaultAt, Stage}
 
 abbrev purposes : List code.Part → List Use
 purposes ps = map (λ p. p.purpose) ps
@@ -188,6 +188,15 @@ module _ (text : List ℕ) (ps qs : List code.Part) (f : Formed text ps) (same :
       let Q : List Part → Type 0 = λ ts. P ts k in
       none (place_of (tokens text) (length text) k)
       (record { uses = purposes ps; used = f.uses; token = k; holds = subst Q (ap parts_of same ∙ parts_are text ps f) h; place = refl })
+
+-- a stage whose fault is made of the place of the part that was found
+pub stage_of : {F : Type 0} (make : ℕ → F) (makes : ℕ → F → Type 0) (text : List ℕ) (ps qs : List code.Part) → Formed text ps → qs ≡ ps
+    → (P : List Part → ℕ → Type 0) (found : Option ℕ) (r : Result (Unit {0}) F) → Smallest (P (parts_of qs)) found → FaultAt makes text found r → ((at : ℕ) (e : F) → makes at e → e ≡ make at) → Stage make (IsInScript P text) r
+stage_of make makes text ps qs f same P None (Ok x) none at just = stage_nowhere text ps qs f same P none
+stage_of make makes text ps qs f same P None (Err e) none at just = absurd (false≢true (at.none refl))
+stage_of make makes text ps qs f same P (Some k) (Ok x) first at just = absurd (at.some k refl)
+stage_of make makes text ps qs f same P (Some k) (Err e) first at just =
+    (place_of (tokens text) (length text) k, just _ e (at.some k refl), stage_first text ps qs f same P k _ refl first)
 
 pub stage_literal : {M : Type 0} (literal : M → List ℕ) (text : List ℕ) (ps qs : List code.Part) → Formed text ps → qs ≡ ps → (k at : ℕ) (fault : LiteralFault) → at ≡ place_of (tokens text) (length text) k
     → Longest literal (bytes (nth (parts_of qs) k)) fault.at → RefusedLiteral literal text at fault

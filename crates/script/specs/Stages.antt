@@ -1,7 +1,7 @@
 -- What each stage of a check answers, as the first place in the text at which its rule is broken.
-use Rattle.std.specs.Prelude.{◌≡◌, ℕ, ◌<◌, ◌⊎◌, List, map, Ok, Err, Result}
+use Rattle.std.specs.Prelude.{◌≡◌, ℕ, ◌<◌, ◌⊎◌, List, map, length, Some, None, Ok, Err, IsOk, IsErrAnd, Option, Result}
 use Rattle.tokens.specs.Places.{First, Nowhere}
-use Rattle.tokens.specs.Tokens.{lexemes}
+use Rattle.tokens.specs.Tokens.{tokens, lexemes, place_of}
 use Rattle.tokens.specs.Tokenised.{Tokenised}
 use Rattle.grammar.specs.declared.part.Part.{Part}
 use Rattle.grammar.specs.Forms.{Uses}
@@ -33,6 +33,11 @@ pub record Formed (text : List ℕ) (ps : List Part) : Type 0 where
 abbrev pub Stage : {T F : Type 0} → (ℕ → F) → (ℕ → Type 0) → Result T F → Type 0
 Stage make P (Ok x) = Nowhere P
 Stage make P (Err f) = (at : ℕ) × (f ≡ make at) × First P at
+
+-- the fault that the place of the part that was found makes, where one was found
+pub record FaultAt {T E : Type 0} (makes : ℕ → E → Type 0) (text : List ℕ) (found : Option ℕ) (r : Result T E) : Type 0 where
+  pub none : found ≡ None → IsOk r
+  pub some : (k : ℕ) → found ≡ Some k → IsErrAnd r (makes (place_of (tokens text) (length text) k))
 
 -- the last stage, whose fault carries a literal's own
 abbrev pub LiteralStage : {M T : Type 0} → (M → List ℕ) → List ℕ → (ℕ → Type 0) → Result T MessageFault → Type 0

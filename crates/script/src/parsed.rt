@@ -9,7 +9,7 @@ ghost use Rattle.script.specs.declared.fault.FormFault.TheVariants.{OutOfRange};
 ghost use Rattle.script.specs.declared.fault.NamesFault.TheVariants.{Misnamed, OverLimit};
 ghost use Rattle.script.specs.Checks.{Answers};
 ghost use Rattle.script.specs.Refusals.{IsInScript};
-ghost use Rattle.script.specs.Stages.{Unformed, Formed, KeptBelow, Stage, LiteralStage};
+ghost use Rattle.script.specs.Stages.{Unformed, Formed, KeptBelow, FaultAt, Stage, LiteralStage};
 ghost use Rattle.tokens.proofs.Props.{Tokenised-prop};
 ghost use Rattle.grammar.proofs.Props.{Uses-prop};
 
@@ -59,37 +59,42 @@ impl<'a> Parsed<'a> {
             .map_or(self.text.len(), |part| part.token.place())
     }
 
+    // No fault where no part was found, and else the one that its place makes.
+    fn refuse<E, F: FnOnce(usize) -> E>(&self, found: Option<usize>, fault: F) -> Result<(), E>
+        requires { F.IsAlwaysCallable fault }
+        ensures { FaultAt (F.post fault) self.now.text.now found result }
+    {
+        match found {
+            Some(part) => Err(fault(self.place(part))),
+            None => Ok(()),
+        }
+    }
+
     fn check_ranges(&self) -> Result<(), FormFault>
         ensures { Stage OutOfRange (IsInScript IsOutOfRange self.now.text.now) result }
     {
-        match first_out_of_range(&self.parts) {
-            Some(part) => Err(FormFault::OutOfRange {
-                at: self.place(part),
-            }),
-            None => Ok(()),
-        }
+        self.refuse(
+            first_out_of_range(&self.parts),
+            |at| FormFault::OutOfRange { at },
+        )
     }
 
     fn check_names(&self) -> Result<(), NamesFault>
         ensures { Nowhere (IsInScript IsOutOfRange self.now.text.now) → Stage Misnamed (IsInScript IsMisnamed self.now.text.now) result }
     {
-        match first_misnamed(&self.parts) {
-            Some(part) => Err(NamesFault::Misnamed {
-                at: self.place(part),
-            }),
-            None => Ok(()),
-        }
+        self.refuse(
+            first_misnamed(&self.parts),
+            |at| NamesFault::Misnamed { at },
+        )
     }
 
     fn check_limits(&self) -> Result<(), NamesFault>
         ensures { Stage OverLimit (IsInScript IsOverLimit self.now.text.now) result }
     {
-        match first_over_limit(&self.parts) {
-            Some(part) => Err(NamesFault::OverLimit {
-                at: self.place(part),
-            }),
-            None => Ok(()),
-        }
+        self.refuse(
+            first_over_limit(&self.parts),
+            |at| NamesFault::OverLimit { at },
+        )
     }
 
     fn check_literals<M: Message>(&self) -> Result<(), MessageFault>

@@ -1,10 +1,10 @@
-use Rattle.std.proofs.Common.{refl}
+use Rattle.std.proofs.Common.{rules}
 use Rattle.passes.specs.Limits.{IsOverLimit}
-use Rattle.script.proofs.Composing.{stage_first, stage_nowhere}
+use Rattle.script.specs.declared.fault.NamesFault.TheVariants.{OverLimit}
+use Rattle.script.proofs.Composing.{stage_of}
 use Rattle.script.proofs.parsed.Parsed.check_limits.Goals as goal
 
-pub returns-in-Some : goal.returns-in-Some
-returns-in-Some c = (c.place.result, refl, stage_first c.args.self.now.text.now _ _ c.args.self.now.formed c.deref.ensures.value IsOverLimit _ _ c.place.ensures c.in-Some.ensures)
-
-pub returns-in-None : goal.returns-in-None
-returns-in-None c = stage_nowhere c.args.self.now.text.now _ _ c.args.self.now.formed c.deref.ensures.value IsOverLimit c.in-None.ensures
+pub returns : goal.returns
+returns c =
+    stage_of OverLimit _ c.args.self.now.text.now _ _ c.args.self.now.formed c.deref.ensures.value IsOverLimit _ c.refuse.result c.first_over_limit.ensures c.refuse.ensures
+    (λ at e m. search rules)

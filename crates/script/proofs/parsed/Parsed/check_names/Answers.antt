@@ -1,14 +1,13 @@
-use Rattle.std.proofs.Common.{refl}
-use Rattle.passes.specs.Names.{Misnamed}
+use Rattle.std.proofs.Common.{rules}
+use Rattle.passes.specs.Names.{Misnamed as IsMisnamed}
 use Rattle.passes.specs.Ranges.{IsOutOfRange}
-use Rattle.script.proofs.Composing.{stage_first, stage_nowhere, nowhere_back}
+use Rattle.script.specs.declared.fault.NamesFault.TheVariants.{Misnamed}
+use Rattle.script.proofs.Composing.{stage_of, nowhere_back}
 use Rattle.script.proofs.parsed.Parsed.check_names.Goals as goal
 
-pub returns-in-Some : goal.returns-in-Some
-returns-in-Some c = λ ranged.
-    let first = c.in-Some.ensures (nowhere_back c.args.self.now.text.now _ _ c.args.self.now.formed c.deref.ensures.value IsOutOfRange ranged) in
-    (c.place.result, refl, stage_first c.args.self.now.text.now _ _ c.args.self.now.formed c.deref.ensures.value Misnamed _ _ c.place.ensures first)
-
-pub returns-in-None : goal.returns-in-None
-returns-in-None c = λ ranged.
-    stage_nowhere c.args.self.now.text.now _ _ c.args.self.now.formed c.deref.ensures.value Misnamed (c.in-None.ensures (nowhere_back c.args.self.now.text.now _ _ c.args.self.now.formed c.deref.ensures.value IsOutOfRange ranged))
+pub returns : goal.returns
+returns c = λ ranged.
+    let text = c.args.self.now.text.now in
+    let in_range = nowhere_back text _ _ c.args.self.now.formed c.deref.ensures.value IsOutOfRange ranged in
+    stage_of Misnamed _ text _ _ c.args.self.now.formed c.deref.ensures.value IsMisnamed _ c.refuse.result (c.first_misnamed.ensures in_range) c.refuse.ensures
+    (λ at e m. search rules)
