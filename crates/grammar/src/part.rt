@@ -5,7 +5,7 @@ use crate::words::Use;
 use tokens::token::Token;
 
 // A token, and what it is there for.
-#[derive(Clone, Copy)]
+#[derive(Clone, Copy, Debug, PartialEq, Eq)]
 pub struct Part<'a> {
     pub purpose: Use,
     pub token: Token<'a>,

@@ -1,11 +1,15 @@
--- Rings of messages are within their cells, and a variable is a holder of one message.
-use Rattle.std.specs.Prelude.{◌≡◌, ℕ, zero, suc, ◌+◌, ◌%◌, ◌<◌, Bool, true, List, length, ◌==◌, nat_lt, slice_index_or}
-use Rattle.std.proofs.Common.{arith}
+-- Rings of messages are within their cells; a variable is a holder of one message, and lawful.
+use Rattle.std.specs.Prelude.{◌≡◌, ℕ, zero, suc, ◌+◌, ◌%◌, ◌<◌, Bool, true, false, List, length, ◌==◌, nat_lt, slice_index_or}
+use Rattle.std.proofs.Common.{arith, lit<}
 use Rattle.std.specs.List.{AllByRecursion}
 use Rattle.std.proofs.lemmas.Bool.Decides.{nat_tests}
 use Rattle.std.proofs.lemmas.List.FromFn.{length-map-range_with_len}
 use Rattle.rules.specs.declared.offer.Offer.{Offer}
 use Rattle.rules.specs.Limits.{most_held}
+use Rattle.grammar.specs.declared.words.PortKind.TheVariants.{Ivar, Mvar}
+use Rattle.rules.specs.declared.kind.BaseKind.TheVariants.{Port}
+use Rattle.rules.specs.Kinds.{Lawful}
+use Rattle.rules.proofs.DeliveredKinds.{delivered_lawful}
 use Rattle.rules.specs.Delivered.{if_waits, by_side, variable}
 use Rattle.kinds.specs.declared.ring.Ring.{Ring}
 use Rattle.kinds.specs.Rings.{ring}
@@ -34,3 +38,7 @@ holder_variable keeps = λ i. record {
   holds = true;
   keeps = keeps;
 }
+
+pub variable_lawful : (keeps : Bool) → Lawful most_held (variable keeps)
+variable_lawful true = delivered_lawful most_held (lit< tt) (Port Ivar)
+variable_lawful false = delivered_lawful most_held (lit< tt) (Port Mvar)

@@ -4,11 +4,10 @@
 pub mod bare;
 pub mod buffer;
 pub mod channel;
-pub mod ivar;
 pub mod kind;
 pub mod mailbox;
-pub mod mvar;
 mod offers;
 mod ring;
 pub mod rule;
 pub mod timeout;
+pub mod variable;

@@ -77,11 +77,10 @@ mod examples {
 mod offers_tests {
     use crate::examples::{check_enrol, check_refused, give, take};
     use kinds::channel::Channel;
-    use kinds::ivar::Ivar;
     use kinds::kind::Kind;
     use kinds::mailbox::Mailbox;
-    use kinds::mvar::Mvar;
     use kinds::timeout::Timeout;
+    use kinds::variable::{Ivar, Mvar};
     use std::alloc::Global;
     use std::process::Abort;
     use std::test::Fail;
@@ -261,10 +260,9 @@ mod channel_tests {
 #[cfg(test)]
 mod holder_tests {
     use crate::examples::{check_commit, check_enrol, check_stand, give, take};
-    use kinds::ivar::Ivar;
     use kinds::kind::Kind;
     use kinds::mailbox::Mailbox;
-    use kinds::mvar::Mvar;
+    use kinds::variable::{Ivar, Mvar};
     use rules::offer::Reply::{Alone, Closed};
     use rules::offer::{Offer, Side};
     use std::process::Abort;
@@ -541,11 +539,10 @@ mod store_tests {
     use board::store::{STORE_SIZE, commit, register, set_register};
     use grammar::words::PortKind;
     use kinds::channel::Channel;
-    use kinds::ivar::Ivar;
     use kinds::kind::Kind;
     use kinds::mailbox::Mailbox;
-    use kinds::mvar::Mvar;
     use kinds::timeout::Timeout;
+    use kinds::variable::{Ivar, Mvar};
     use message::kind::Message;
     use message::literal::Literal;
     use message::ticket::Ticket;
