@@ -24,10 +24,9 @@ pub enum Entry<M> {
     Node(Node<M>),
 }
 
-// The number of a port or a body.
+// The number of a port or a body, for which a byte is enough.
 fn read_name(bytes: &[u8], max: u32) -> Option<u8>
-    requires { max < 256 }
-    ensures { ReadsNumber max bytes.now result }
+    ensures { max < 256 → ReadsNumber max bytes.now result }
 {
     u8::try_from(read_number(bytes, max)?).ok()
 }
