@@ -43,6 +43,7 @@ impl fmt::Display for Shown<'_> {
     }
 }
 
+// What is said of a fault is this program's choice, so it stands here and not in a Display beside it.
 fn layer(fault: Fault) -> &'static str {
     match fault {
         Fault::Text(_) => "text",

@@ -27,6 +27,7 @@ enum Counted {
     OtherEvent,
     Instr,
     Body,
+    // Nothing; a case of its own, so that what follows says of each what it does.
     Other,
 }
 

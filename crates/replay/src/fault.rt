@@ -58,6 +58,7 @@ impl CallFault {
     }
 }
 
+// No derive makes a conversion whose contract names the variant, so each is written.
 impl From<MessageFault> for CallFault {
     ghost from_gives = { λ f r. r ≡ Message f };
 

@@ -10,7 +10,7 @@ pub enum Side {
 pub struct Offer {
     pub sync: u32,
     pub leaf: u8,
-    // 0 where unused.
+    // 0 where unused: an offer is the same five values at every kind, so that any kind can be asked.
     pub port: u8,
     pub side: Side,
     // The clock at which it is due, 0 where unused; past 32 bits where the delay goes beyond them.

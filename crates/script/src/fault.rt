@@ -38,7 +38,7 @@ pub enum Fault {
 }
 
 impl Fault {
-    // The refusal's number; want of memory is no refusal, and has 0.
+    // The refusal's number, to be shown; want of memory is no refusal, and has 0, which none has.
     pub fn number(self) -> u32
         ensures { result ≡ fault_number self }
     {
@@ -69,6 +69,7 @@ impl Fault {
     }
 }
 
+// No derive makes a conversion whose contract names the variant, so each is written.
 impl From<TextFault> for Fault {
     ghost from_gives = { λ f r. r ≡ Text f };
 

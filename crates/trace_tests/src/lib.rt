@@ -30,10 +30,9 @@ mod lines {
 
     // Seq and ms of the record that the line is of, or the number of the refusal.
     fn read(line: &[u8]) -> Result<(u32, u32), u32> {
-        match read_line::<Weight>(line) {
-            Ok(record) => Ok((record.seq, record.ms)),
-            Err(refusal) => Err(refusal.number()),
-        }
+        read_line::<Weight>(line)
+            .map(|record| (record.seq, record.ms))
+            .map_err(|refusal| refusal.number())
     }
 
     fn check_event(rt: &impl Abort, event: Event<Weight>, line: &[u8]) -> Result<(), Fail> {
