@@ -1,7 +1,7 @@
 ghost use Rattle.std.specs.Prelude.{◌≡◌, reverse};
 ghost use Rattle.grammar.specs.declared.words.Use.TheVariants.{Bracket};
 ghost use Rattle.grammar.specs.Grammar.{spelled, test_word};
-ghost use Rattle.grammar.specs.Machine.{begins, keyword, tested, as_head, as_test, after, at_open, at_close, at_atom, expand};
+ghost use Rattle.grammar.specs.Machine.{begins, keyword, tested, as_head, after, at_open, at_close, at_atom, expand};
 ghost use Rattle.grammar.specs.Stacks.{reading, shown};
 ghost use Rattle.tokens.specs.Reading.{lexeme};
 

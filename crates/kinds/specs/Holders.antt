@@ -9,7 +9,7 @@ use Rattle.kinds.specs.Rings.{ring}
 abbrev pub holder : ℕ → Bool → Kind
 holder room keeps = record { poll = λ os h k o. if_waits o os (by_side o.side (nat_lt (h o.port) room) (nat_lt 0 (h o.port))); holds = true; keeps = keeps }
 
--- the ring of a port that there is not
+-- the ring of a port past the last, which holds nothing
 abbrev pub empty : Ring
 empty = record { first = 0; count = 0; inside = lit< tt; few = lit≤ tt }
 

@@ -10,7 +10,7 @@ use rules::offer::{Offer, Reply};
 use std::alloc::{AllocError, Global};
 use std::marker::PhantomData;
 
-// How a kind that holds nothing differs from others that do not.
+// How a kind that holds nothing differs from others that hold nothing.
 pub trait BareRule: Sized {
     ghost rules: { Rules };
 
@@ -20,10 +20,11 @@ pub trait BareRule: Sized {
 
     ghost lawful: { Lawful most_held rules };
 
-    ghost holds: { rules.holds ≡ false };
+    ghost bare: { rules.holds ≡ false };
 }
 
-// A kind that holds nothing, by its rule.
+// A kind that holds nothing, by its rule. What it does with its offers a buffer does too; they differ
+// in poll and commit, and hand the rest on.
 #[derive(Drop)]
 pub struct Bare<R> {
     offers: Offers,

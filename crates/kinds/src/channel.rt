@@ -27,7 +27,7 @@ impl BareRule for ChannelRule {
 
     ghost lawful = { delivered_lawful most_held (lit< tt) (Port ChannelKind) };
 
-    ghost holds = { refl };
+    ghost bare = { refl };
 
     // Of the possible partners, the one with the smallest sync number, then leaf.
     fn reply(waiting: &[Offer], _clock: u32, o: Offer) -> Reply {

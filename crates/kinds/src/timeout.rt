@@ -17,7 +17,7 @@ impl BareRule for TimeoutRule {
 
     ghost lawful = { delivered_lawful most_held (lit< tt) TimeoutKind };
 
-    ghost holds = { refl };
+    ghost bare = { refl };
 
     fn reply(_waiting: &[Offer], clock: u32, o: Offer) -> Reply {
         match o.side {

@@ -11,6 +11,7 @@ pub type Ivar = Buffer<VariableRule<true>>;
 // MVars: set, taken, and set again.
 pub type Mvar = Buffer<VariableRule<false>>;
 
+// A const parameter is a number or a bool: here whether a take leaves the message.
 pub struct VariableRule<const IS_KEPT: bool>;
 
 impl<const IS_KEPT: bool> Rule for VariableRule<IS_KEPT> {

@@ -1,5 +1,6 @@
 #![tactic(auto)]
 
+mod input;
 mod show;
 mod verdict;
 
@@ -12,7 +13,7 @@ use tokens::text::LONGEST_TEXT;
 use verdict::judge;
 
 // One byte more than a script may have tells that it is too long.
-const MOST_READ: u64 = LONGEST_TEXT as u64 + 1;
+const MOST_READ: usize = LONGEST_TEXT + 1;
 
 // The message kind that scripts are checked for.
 #[derive(Clone, Copy)]
@@ -30,22 +31,24 @@ impl fmt::Display for Kind {
     }
 }
 
-fn report<R: Read + Drop>(rt: &HostRuntime, kind: Kind, source: R) -> io::Result<()> {
-    let mut text = Vec::new(rt.alloc());
-    if let Err(e) = source.take(MOST_READ).read_to_end(&mut text) {
-        return println!(rt; "cannot be read: {e}");
-    }
-    let verdict = match kind {
-        Kind::Weights => judge::<Weight>(rt.alloc(), &text),
-        Kind::Tickets => judge::<Ticket>(rt.alloc(), &text),
+// The page takes no memory, so that want of it is the check's to tell.
+fn report<R: Read>(rt: &HostRuntime, kind: Kind, source: &mut R) -> io::Result<()> {
+    let mut page = [0; MOST_READ];
+    let text = match input::fill(source, &mut page) {
+        Ok(n) => &page[..n],
+        Err(e) => return println!(rt; "cannot be read: {e}"),
     };
-    print_verdict(rt, kind, &text, verdict)
+    let verdict = match kind {
+        Kind::Weights => judge::<Weight>(rt.alloc(), text),
+        Kind::Tickets => judge::<Ticket>(rt.alloc(), text),
+    };
+    print_verdict(rt, kind, text, verdict)
 }
 
 fn report_file(rt: &HostRuntime, kind: Kind, path: &str) -> io::Result<()> {
     println!(rt; "{path}")?;
     match fs::open(rt, path) {
-        Ok(file) => report(rt, kind, file),
+        Ok(mut file) => report(rt, kind, &mut file),
         Err(e) => println!(rt; "cannot be opened: {e}"),
     }
 }
@@ -71,7 +74,7 @@ fn run(rt: &HostRuntime) -> io::Result<()> {
     if is_named {
         Ok(())
     } else {
-        report(rt, kind, rt.stdin())
+        report(rt, kind, &mut rt.stdin())
     }
 }
 

@@ -40,6 +40,7 @@ fn is_event(purpose: Use) -> bool {
 
 fn count_events(heap: Global, text: &[u8]) -> Result<usize, Fault> {
     let tokens = tokens(heap, text)?;
+    // An accepted text has the form of a script, so only memory can be wanting.
     let Ok(parts) = parts(heap, &tokens) else {
         return Err(Fault::Memory);
     };

@@ -30,6 +30,7 @@ impl<A: Literal, B: Message> Joined<A, B> {
         let Some(room) = page.len().checked_sub(at) else {
             return Err(PageFull);
         };
+        // `is_none` would leave less to prove from.
         if let None = self.room_after(room) {
             return Err(PageFull);
         }

@@ -56,7 +56,8 @@ pub struct Rows<M: Drop> {
     nodes: Vec<Node<M>>,
 }
 
-// Puts the value at a place that has none yet.
+// Puts the value at a place that has none yet. Through `get_mut` nothing would be known of the slots
+// afterwards.
 fn declare<T: Drop>(slots: &mut [Option<T>], at: u8, value: T)
     ensures { slots.new ≡ declared slots.old at value }
 {

@@ -97,6 +97,7 @@ impl<'a> Parsed<'a> {
         )
     }
 
+    // Its fault carries the literal's own beside the place, so it is none that `refuse` makes.
     fn check_literals<M: Message>(&self) -> Result<(), MessageFault>
         ensures { LiteralStage M.Literal.literal self.now.text.now (IsInScript (NoMessage M.Literal.literal) self.now.text.now) result }
     {
