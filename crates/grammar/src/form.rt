@@ -36,10 +36,16 @@ impl<T: Drop> From<AllocFailed<T>> for FormFault {
 }
 
 // A number has to be an integer; what else a use asks of a token, the token's place does.
-fn is_fit(purpose: Use, token: Token<'_>) -> bool
-    ensures { result ≡ suits purpose token.entry }
+fn is_fit(part: Part<'_>) -> bool
+    ensures { result ≡ suits part.entry.purpose part.entry.token }
 {
-    !matches!((purpose, token), (Use::Number(_), Token::Word { .. }))
+    !matches!(
+        part,
+        Part {
+            purpose: Use::Number(_),
+            token: Token::Word { .. }
+        }
+    )
 }
 
 // Reads a token: its use, or None where no script goes on with it.
@@ -52,11 +58,12 @@ fn step_on(stack: &mut Vec<Item>, token: Token<'_>) -> Result<Option<Use>, Alloc
     let Some(reading) = at_token(item, token) else {
         return Ok(None);
     };
-    if !is_fit(reading.purpose, token) {
+    let purpose = reading.purpose;
+    if !is_fit(Part { purpose, token }) {
         return Ok(None);
     }
     stack.extend_from_slice(reading.next)?;
-    Ok(Some(reading.purpose))
+    Ok(Some(purpose))
 }
 
 // Whether a script may end here: it has a body, and no form is open.

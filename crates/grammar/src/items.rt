@@ -140,7 +140,8 @@ const CLOSE: Item = Item::Shut(BracketUse::Close);
 
 const EVENT: Item = Item::Event(BracketUse::Open);
 
-// What follows a keyword, the last first.
+// What follows a keyword, the last first. A port's kind is not a part of its keyword: no `'static` slice
+// can be made of a kind that is known at run time alone.
 fn followers(k: Keyword) -> &'static [Item]
     ensures { reverse result.now ≡ after k }
 {

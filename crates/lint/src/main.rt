@@ -31,7 +31,7 @@ impl fmt::Display for Kind {
     }
 }
 
-// The page takes no memory, so that want of it is the check's to tell.
+// The page takes no memory: want of it is told as what the check answers, not as a fault of reading.
 fn report<R: Read>(rt: &HostRuntime, kind: Kind, source: &mut R) -> io::Result<()> {
     let mut page = [0; MOST_READ];
     let text = match input::fill(source, &mut page) {

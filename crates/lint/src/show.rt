@@ -43,7 +43,8 @@ impl fmt::Display for Shown<'_> {
     }
 }
 
-// What is said of a fault is this program's choice, so it stands here and not in a Display beside it.
+// What is said of a fault is this program's choice, so it stands here and not in a Display beside it;
+// a wrapper with a Display would hold the same two matches.
 fn layer(fault: Fault) -> &'static str {
     match fault {
         Fault::Text(_) => "text",

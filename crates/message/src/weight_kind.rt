@@ -71,6 +71,7 @@ impl Literal for Weight {
                 let Lead { length, value } = leading_number(s, i32::MAX.unsigned_abs());
                 Lead {
                     length,
+                    // The cast loses no number up to `i32::MAX`.
                     value: value.map(|n| Weight { value: n as i32 }),
                 }
             }

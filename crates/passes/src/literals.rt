@@ -26,7 +26,6 @@ fn check_literal<M: Message>(part: Part<'_>) -> Result<(), LiteralFault>
 pub fn first_refused_literal<M: Message>(parts: &[Part<'_>]) -> Option<RefusedLiteral>
     ensures { Refuses M.Literal.literal (parts_of parts.now) result }
 {
-    // The library states nothing of `find_map`.
     for (token, part) in parts.iter().enumerate() {
         if let Err(fault) = check_literal::<M>(*part) {
             return Some(RefusedLiteral { token, fault });

@@ -5,12 +5,13 @@ ghost use Rattle.passes.specs.Ranges.{AllRanged};
 ghost use Rattle.passes.specs.Names.{declares, names, Misnamed};
 ghost use Rattle.passes.specs.Declarations.{Small, Mentions, holds, Empty, Added, Declaring, Lacking, KnowsAll};
 
-use crate::ranges::{LAST_BODY, LAST_PORT};
+use crate::ranges::{BODIES, LAST_BODY, LAST_PORT, PORTS};
 use grammar::part::Part;
 use grammar::words::{NumberUse, Use};
 use message::decimal::read_number;
 
-// A port or a body by its number.
+// A port or a body by its number, which is in range wherever one is made: types that say so would be
+// two structs, to save two clauses.
 #[derive(Clone, Copy)]
 enum Name {
     Port(u32),
@@ -21,8 +22,8 @@ enum Name {
 // memory, and this pass never fails for want of it.
 #[derive(Clone, Copy)]
 struct Declared {
-    ports: [bool; 16],
-    bodies: [bool; 32],
+    ports: [bool; PORTS],
+    bodies: [bool; BODIES],
 }
 
 impl Declared {
@@ -30,11 +31,12 @@ impl Declared {
         ensures { Empty result }
     {
         Declared {
-            ports: [false; 16],
-            bodies: [false; 32],
+            ports: [false; PORTS],
+            bodies: [false; BODIES],
         }
     }
 
+    // A `u32` has no `From` to an index.
     fn contains(&self, name: Name) -> bool
         requires { Small name }
         ensures { result ≡ holds self.now name }
@@ -90,7 +92,8 @@ fn declared_by(part: Part<'_>) -> Option<Name>
     }
 }
 
-// The port or the body that the part names, if its number is in range.
+// The port or the body that the part names, if its number is in range. It reads as the one above does,
+// but of other uses, and the two are told apart by definitions of their own.
 fn named_by(part: Part<'_>) -> Option<Name>
     ensures { Mentions names (told part.entry) result }
 {

@@ -13,6 +13,11 @@ pub const LAST_PORT: u32 = 15;
 
 pub const LAST_BODY: u32 = 31;
 
+// What is kept for each port or body is kept in so many places.
+pub const PORTS: usize = LAST_PORT as usize + 1;
+
+pub const BODIES: usize = LAST_BODY as usize + 1;
+
 // A day, in milliseconds.
 pub const LONGEST_DELAY: u32 = 86_400_000;
 

@@ -1,5 +1,5 @@
 // An able task, as a policy is shown it.
-#[derive(Clone, Copy)]
+#[derive(Clone, Copy, Debug, PartialEq, Eq)]
 pub struct Candidate {
     pub task: u32,
     // The number of the latest record in which the task started or took a step.

@@ -5,7 +5,7 @@ ghost use Rattle.replay.specs.Faults.{run_number, call_number};
 use script::fault::MessageFault;
 
 // A call on a run was sent away for what the run is.
-#[derive(Clone, Copy)]
+#[derive(Clone, Copy, Debug, PartialEq, Eq)]
 pub enum RunFault {
     // Fewer cells than the run needs.
     FewCells,
@@ -40,7 +40,7 @@ impl RunFault {
 }
 
 // Why a call on a run was sent away, by the layer that found it.
-#[derive(Clone, Copy)]
+#[derive(Clone, Copy, Debug, PartialEq, Eq)]
 pub enum CallFault {
     Message(MessageFault),
     Run(RunFault),

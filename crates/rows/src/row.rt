@@ -8,10 +8,11 @@ use crate::entry::Entry;
 use grammar::part::Part;
 use grammar::words::PortKind;
 use message::kind::{Message, Sign};
+use passes::ranges::{BODIES, PORTS};
 use std::alloc::{AllocError, Global};
 
 // What a task does at one place of its body.
-#[derive(Clone, Copy)]
+#[derive(Clone, Copy, Debug, PartialEq, Eq)]
 pub enum Instr {
     // Waits for the event whose row begins at `from`.
     Sync { from: usize },
@@ -24,7 +25,7 @@ pub enum Instr {
 
 // A piece of an event's row. What a leaf is wrapped in stands after it, a guard's arms are parted by
 // `Else`, and choices leave no trace: so an event is evaluated in one walk, with no memory of its own.
-#[derive(Clone, Copy)]
+#[derive(Clone, Copy, Debug, PartialEq, Eq)]
 pub enum Node<M> {
     Always(M),
     Send(u8),
@@ -49,9 +50,10 @@ pub enum Node<M> {
 // A script in rows.
 #[derive(Drop)]
 pub struct Rows<M: Drop> {
-    ports: [Option<PortKind>; 16],
+    // Of fixed size, so that a new table takes no memory.
+    ports: [Option<PortKind>; PORTS],
     // Where the instructions of each body begin in the row of all.
-    bodies: [Option<usize>; 32],
+    bodies: [Option<usize>; BODIES],
     instrs: Vec<Instr>,
     nodes: Vec<Node<M>>,
 }
@@ -80,8 +82,8 @@ impl<M: Message> Rows<M> {
         ensures { table result ≡ blank_table }
     {
         Rows {
-            ports: [None; 16],
-            bodies: [None; 32],
+            ports: [None; PORTS],
+            bodies: [None; BODIES],
             instrs: Vec::new(heap),
             nodes: Vec::new(heap),
         }

@@ -1,7 +1,7 @@
 use grammar::words::PortKind;
 
 // The kinds of base events: those of the ports, and timeouts.
-#[derive(Clone, Copy)]
+#[derive(Clone, Copy, Debug, PartialEq, Eq)]
 pub enum BaseKind {
     Port(PortKind),
     Timeout,

@@ -1,5 +1,5 @@
 // A task's negative acknowledgement.
-#[derive(Clone, Copy)]
+#[derive(Clone, Copy, Debug, PartialEq, Eq)]
 pub enum Nack {
     // Of a sync that waits: the with-nack with this number among those of that sync started the task.
     Pending { sync: u32, branch: u8 },

@@ -40,6 +40,7 @@ impl<'a> Parsed<'a> {
         ensures fault { IfErr result (Unformed text.now) }
     {
         let tokens = tokens(heap, text)?;
+        // Its fault is placed by the tokens, so no `From` makes it.
         match parts(heap, &tokens) {
             Ok(parts) => Ok(Parsed { text, parts }),
             Err(NoScript::Misfit { token }) => {
