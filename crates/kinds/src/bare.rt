@@ -73,6 +73,6 @@ impl<R: BareRule> Kind for Bare<R> {
     }
 
     fn waiting(&self) -> &[Offer] {
-        &self.offers.list
+        self.offers.list.as_slice()
     }
 }

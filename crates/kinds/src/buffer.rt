@@ -95,6 +95,6 @@ impl<R: Rule> Kind for Buffer<R> {
     }
 
     fn waiting(&self) -> &[Offer] {
-        &self.offers.list
+        self.offers.list.as_slice()
     }
 }

@@ -180,6 +180,33 @@ mod channel_tests {
         Ok(())
     }
 
+    // Syncs with offers on both sides: each pairs with the other sync alone, at its smallest leaf.
+    #[test]
+    fn equal_syncs(rt: HostRuntime) -> Result<(), Fail> {
+        let mut channels = Channel::fresh(rt.alloc())?;
+        check_enrol(
+            &rt,
+            &mut channels,
+            &[give(5, 3, 2), give(5, 1, 2), take(5, 2, 2)],
+        );
+        check_enrol(
+            &rt,
+            &mut channels,
+            &[take(6, 4, 2), take(6, 0, 2), give(6, 5, 2)],
+        );
+        check_stand(
+            &rt,
+            &channels,
+            &[
+                (give(5, 3, 2), with(6, 0)),
+                (take(5, 2, 2), with(6, 5)),
+                (take(6, 4, 2), with(5, 1)),
+                (give(6, 5, 2), with(5, 2)),
+            ],
+        );
+        Ok(())
+    }
+
     // The smallest sync number, then the smallest leaf.
     #[test]
     fn soonest_partner(rt: HostRuntime) -> Result<(), Fail> {
