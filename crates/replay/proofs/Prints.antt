@@ -1,5 +1,5 @@
 -- The replays of the worked cases, computed.
-use Rattle.std.proofs.Common.{◌≡◌, ℕ, zero, suc, ◌<◌, Bool, true, false, List, [], ◌∷◌, ◌++◌, length, replicate, pos, Ok, Err, codes, refl, ap, ◌∙◌, subst, arith, lit<, lit≤}
+use Rattle.std.proofs.Common.{cond, ◌-◌, ◌≡◌, ℕ, zero, suc, ◌<◌, Bool, true, false, List, [], ◌∷◌, ◌++◌, length, replicate, pos, Ok, Err, codes, refl, ap, ◌∙◌, subst, arith, lit<, lit≤}
 use Rattle.std.specs.List.{AllByRecursion}
 use Rattle.std.specs.Fmt.{digits}
 use Rattle.message.specs.declared.weight.Weight.{Weight}
@@ -85,6 +85,10 @@ pub instr_prints : Prints worked.instr_text worked.instr_script worked.instr_lin
 unfolding turned digits
 instr_prints = prints texts.instr_text_is refl
 
+pub pair_prints : Prints worked.pair_text worked.pair_script worked.pair_lines
+unfolding turned digits
+pair_prints = prints texts.pair_text_is refl
+
 pub lone_shows : Shows {P = Unit {0}} longest_idle tt worked.lone_text worked.lone_script worked.lone_calls worked.lone_answers worked.lone_lines
 unfolding computed digits
 lone_shows = shows texts.lone_text_is idle_inside (omega arith) refl refl
@@ -106,11 +110,11 @@ variable_shows = shows texts.variable_text_is idle_inside (omega arith) refl ref
 -- By turns
 
 turns_inside : Inside by_turns
-turns_inside = record { task = λ p c cs. omega arith; leaf = leaf }
+turns_inside = record { task = λ p c cs. an_end p c cs; leaf = λ p i is. an_end p i is }
   where
-    leaf : (p : Bool) (i : ℕ) (is : List ℕ) → (by_turns.name_leaf p (i ∷ is)).place < length (i ∷ is)
-    leaf true i is = omega arith
-    leaf false i is = omega arith
+    an_end : {X : Type 0} (p : Bool) (x : X) (xs : List X) → cond p (length (x ∷ xs) - 1) 0 < length (x ∷ xs)
+    an_end true x xs = omega arith
+    an_end false x xs = omega arith
 
 pub turns_shows : Shows by_turns false worked.turns_text worked.turns_script (replicate 5 a_turn) (replicate 4 (wrote 19) ++ (wrote 16 ∷ [])) worked.turns_lines
 unfolding computed digits

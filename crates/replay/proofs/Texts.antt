@@ -3,7 +3,7 @@ use Rattle.std.proofs.Common.{refl, arith}
 use Rattle.std.specs.Fmt.{digits}
 use Rattle.message.specs.Weights.{weight_literal}
 use Rattle.rows.specs.Scripts.{ScriptOf}
-use Rattle.replay.specs.Worked.{first_text, first_script, wrap_text, wrap_script, branch_text, branch_script, instr_text, instr_script, lone_text, lone_script, post_text, post_script, variable_text, variable_script, turns_text, turns_script}
+use Rattle.replay.specs.Worked.{first_text, first_script, wrap_text, wrap_script, branch_text, branch_script, instr_text, instr_script, pair_text, pair_script, lone_text, lone_script, post_text, post_script, variable_text, variable_script, turns_text, turns_script}
 
 pub first_text_is : ScriptOf weight_literal first_text first_script
 unfolding digits
@@ -20,6 +20,10 @@ branch_text_is = record { within = record { ports = tt; first = omega arith; oth
 pub instr_text_is : ScriptOf weight_literal instr_text instr_script
 unfolding digits
 instr_text_is = record { within = record { ports = tt; first = omega arith; others = omega arith }; written = refl }
+
+pub pair_text_is : ScriptOf weight_literal pair_text pair_script
+unfolding digits
+pair_text_is = record { within = record { ports = omega arith; first = omega arith; others = omega arith }; written = refl }
 
 pub lone_text_is : ScriptOf weight_literal lone_text lone_script
 unfolding digits

@@ -142,6 +142,40 @@ instr_lines =
     ∷ (codes "9,0,sync,1,2,0,,,"
     ∷ (codes "10,0,end,2,,,,," ∷ []))))))))))
 
+-- a pair: the giver's register goes over, the giver's wrap acts on a blank, and both are stamped
+abbrev pub pair_text : List ℕ
+pair_text = codes "(channel 1)(task 0 (spawn 1) (sync (wrap (always 5) (add 2))) (sync (wrap (send 1) (set 9))) (emit))(task 1 (sync (recv 1)) (emit))"
+
+abbrev pub pair_script : Script Weight
+pair_script = record {
+  ports = record { kind = Channel; number = 1 } ∷ [];
+  first = record {
+    number = 0;
+    instrs =
+        g.spawn 1
+        ∷ (g.sync (g.wrap (g.always five) (g.add (pos 2)))
+        ∷ (g.sync (g.wrap (g.send 1) (g.set (weight (pos 9) (lit< tt))))
+        ∷ (g.emit ∷ [])));
+  };
+  others = record { number = 1; instrs = g.sync (g.recv 1) ∷ (g.emit ∷ []) } ∷ [];
+}
+
+abbrev pub pair_lines : List (List ℕ)
+pair_lines =
+    codes "seq,ms,kind,task,a,b,c,d,message"
+    ∷ (codes "1,0,start,1,0,0,0,,"
+    ∷ (codes "2,0,step,1,0,,,,0"
+    ∷ (codes "3,0,start,2,1,1,0,,"
+    ∷ (codes "4,0,sync,1,1,1,,,"
+    ∷ (codes "5,0,sync,2,2,1,,,"
+    ∷ (codes "6,0,one,1,1,0,,,5"
+    ∷ (codes "7,0,sync,1,3,1,,,"
+    ∷ (codes "8,0,pair,1,3,0,2,0,7"
+    ∷ (codes "9,0,emit,1,3,,,,9"
+    ∷ (codes "10,0,emit,2,1,,,,7"
+    ∷ (codes "11,0,end,1,,,,,"
+    ∷ (codes "12,0,end,2,,,,," ∷ []))))))))))))
+
 -- a lone choose of both sides of a channel has no partner
 abbrev pub lone_text : List ℕ
 lone_text = codes "(channel 1)(task 0 (sync (choose (send 1) (recv 1))))"
@@ -173,7 +207,7 @@ lone_lines =
     ∷ (codes "1,0,start,1,0,0,0,,"
     ∷ (codes "2,0,sync,1,1,2,,," ∷ []))
 
--- posts: the refusals in their order, two messages of which the older comes out first, and a clock that may not go back
+-- posts: the refusals in their order, two messages of which the older comes out first, and a clock that may stand but not go back
 abbrev pub post_text : List ℕ
 post_text = codes "(mailbox 3)(task 0 (sync (recv 3)) (emit))"
 
@@ -192,9 +226,11 @@ post_calls =
     ∷ (post 576 2048 3 (codes "x")
     ∷ (post 576 2048 3 (codes "7")
     ∷ (post 576 2048 3 (codes "8")
+    ∷ (clock 2047 5
+    ∷ (clock 2048 5
     ∷ (clock 2048 5
     ∷ (clock 2048 4
-    ∷ (a_turn ∷ (a_turn ∷ (a_turn ∷ (a_turn ∷ (a_turn ∷ []))))))))))))
+    ∷ (a_turn ∷ (a_turn ∷ (a_turn ∷ (a_turn ∷ (a_turn ∷ []))))))))))))))
 
 abbrev pub post_answers : List Answer
 post_answers =
@@ -204,9 +240,11 @@ post_answers =
     ∷ (sent_away (Message (InPost (record { at = 0 })))
     ∷ (wrote 19
     ∷ (wrote 19
+    ∷ (sent_away (Run ShortPage)
+    ∷ (wrote 18
     ∷ (wrote 18
     ∷ (sent_away (Run ClockBack)
-    ∷ (wrote 19 ∷ (wrote 19 ∷ (wrote 19 ∷ (wrote 16 ∷ (sent_away (Run Quiet) ∷ []))))))))))))
+    ∷ (wrote 19 ∷ (wrote 19 ∷ (wrote 19 ∷ (wrote 16 ∷ (sent_away (Run Quiet) ∷ []))))))))))))))
 
 abbrev pub post_lines : List (List ℕ)
 post_lines =
@@ -215,10 +253,11 @@ post_lines =
     ∷ (codes "2,0,post,0,3,,,,7"
     ∷ (codes "3,0,post,0,3,,,,8"
     ∷ (codes "4,5,clock,0,,,,,"
-    ∷ (codes "5,5,sync,1,1,1,,,"
-    ∷ (codes "6,5,one,1,1,0,,,7"
-    ∷ (codes "7,5,emit,1,1,,,,7"
-    ∷ (codes "8,5,end,1,,,,," ∷ []))))))))
+    ∷ (codes "5,5,clock,0,,,,,"
+    ∷ (codes "6,5,sync,1,1,1,,,"
+    ∷ (codes "7,5,one,1,1,0,,,7"
+    ∷ (codes "8,5,emit,1,1,,,,7"
+    ∷ (codes "9,5,end,1,,,,," ∷ [])))))))))
 
 -- an IVar keeps its message and an MVar loses it; a give shows the message given and results in a blank; timeouts are due after the clock of their sync
 abbrev pub variable_text : List ℕ
@@ -272,10 +311,10 @@ variable_lines =
     ∷ (codes "19,10,one,1,7,1,,,0"
     ∷ (codes "20,10,end,1,,,,," ∷ []))))))))))))))))))))
 
--- a policy that names the first and the last leaf by turns: each naming finds the state that the one before it left
+-- a policy that names the first and the last place by turns, of tasks and of leaves: each naming finds the state that the one before it left
 abbrev pub by_turns : Policy Bool
 by_turns = record {
-  name_task = λ p cs. record { place = 0; next = p };
+  name_task = λ p cs. record { place = cond p (length cs - 1) 0; next = not p };
   name_leaf = λ p is. record { place = cond p (length is - 1) 0; next = not p };
 }
 
@@ -307,6 +346,7 @@ pub record Worked : Type 0 where
   pub wraps : Prints wrap_text wrap_script wrap_lines
   pub branches : Prints branch_text branch_script branch_lines
   pub instructions : Prints instr_text instr_script instr_lines
+  pub pairs : Prints pair_text pair_script pair_lines
   pub lone : Shows {P = Unit {0}} longest_idle tt lone_text lone_script lone_calls lone_answers lone_lines
   pub posts : Shows {P = Unit {0}} longest_idle tt post_text post_script post_calls post_answers post_lines
   pub variables : Shows {P = Unit {0}} longest_idle tt variable_text variable_script variable_calls variable_answers variable_lines

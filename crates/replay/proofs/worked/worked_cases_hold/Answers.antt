@@ -1,4 +1,4 @@
-use Rattle.replay.proofs.Prints.{first_prints, wrap_prints, branch_prints, instr_prints, lone_shows, post_shows, variable_shows, turns_shows}
+use Rattle.replay.proofs.Prints.{first_prints, wrap_prints, branch_prints, instr_prints, pair_prints, lone_shows, post_shows, variable_shows, turns_shows}
 use Rattle.replay.proofs.Readings.{largest_reads, too_large_reads, minus_zero_reads}
 use Rattle.replay.proofs.worked.worked_cases_hold.Goals as goal
 
@@ -8,6 +8,7 @@ returns c = record {
   wraps = wrap_prints;
   branches = branch_prints;
   instructions = instr_prints;
+  pairs = pair_prints;
   lone = lone_shows;
   posts = post_shows;
   variables = variable_shows;
