@@ -25,4 +25,6 @@ pub mod Dues
 pub mod Posting
 pub mod Framing
 pub mod Pending
+pub mod Listing
+pub mod Room
 pub mod Small

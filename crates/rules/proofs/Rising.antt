@@ -38,7 +38,7 @@ all_kept : {X : Type 0} (P : ℕ → Type 0) (f : X → ℕ) (p : X → Bool) (x
 all_kept P f p [] h = tt
 all_kept {X} P f p (x ∷ xs) h = cond_both (p x) (x ∷ filter p xs) (filter p xs) (λ (l : List X). AllByRecursion P (map f l)) (λ _. (h.0, all_kept P f p xs h.1)) (λ _. all_kept P f p xs h.1)
 
-rising_kept : {X : Type 0} (f : X → ℕ) (p : X → Bool) (xs : List X) → Rising (map f xs) → Rising (map f (filter p xs))
+pub rising_kept : {X : Type 0} (f : X → ℕ) (p : X → Bool) (xs : List X) → Rising (map f xs) → Rising (map f (filter p xs))
 rising_kept f p [] h = tt
 rising_kept {X} f p (x ∷ xs) h = cond_both (p x) (x ∷ filter p xs) (filter p xs) (λ (l : List X). Rising (map f l)) (λ _. (all_kept (λ n. f x < n) f p xs h.0, rising_kept f p xs h.1)) (λ _. rising_kept f p xs h.1)
 

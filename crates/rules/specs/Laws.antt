@@ -1,11 +1,13 @@
 -- What holds of every run, whatever the script, the messages and the base event kinds.
-use Rattle.std.specs.Prelude.{◌≡◌, ℕ, suc, ◌<◌, ◌≤◌, true, false, ◌≢◌, ◌⊎◌, ◌↔◌, List, [], ◌∷◌, ◌++◌, map, length, Some, None, filter, nat_eq}
+use Rattle.std.specs.Prelude.{◌≡◌, ℕ, suc, ◌+◌, ◌<◌, ◌≤◌, true, false, ◌≢◌, ◌⊎◌, ◌↔◌, List, [], ◌∷◌, ◌++◌, map, length, Some, None, filter, nat_eq}
 use mathlib.Core.List.{Memᴰ}
 use Rattle.std.specs.List.{range_with_len, AllByRecursion}
 use Rattle.rows.specs.Rows.{port_kind}
+use Rattle.rows.specs.Scripts as script
 use Rattle.trace.specs.declared.record.Event.{Event}
 use Rattle.trace.specs.declared.record.Event.TheVariants as line
 use Rattle.trace.specs.declared.record.Record.{Record}
+use Rattle.grammar.specs.Grammar as g
 use Rattle.grammar.specs.declared.words.PortKind.{PortKind}
 use Rattle.grammar.specs.declared.words.PortKind.TheVariants.{Channel, Mailbox, Ivar, Mvar}
 use Rattle.rules.specs.declared.kind.BaseKind.{BaseKind}
@@ -18,7 +20,8 @@ use Rattle.rules.specs.Kinds.{Kind, Meaning, Lawful, Partner, polled, oldest, ac
 use Rattle.rules.specs.Delivered.{channel, delivered}
 use Rattle.rules.specs.States.{Setting, Base, always, send, recv, due, nack, Leaf, running, waiting, Task, State}
 use Rattle.rules.specs.Limits.{Limited}
-use Rattle.rules.specs.Able.{Stands, Able, able_tasks, open_leaves, offers_in, reply, soonest_closed, most_tasks}
+use Rattle.rules.specs.Branches.{branches}
+use Rattle.rules.specs.Able.{instr_at, sign_at, Stands, Open, Able, able_tasks, open_leaves, offers_in, reply, soonest_closed, most_tasks}
 use Rattle.rules.specs.Settling.{acted, or_blank}
 use Rattle.rules.specs.Steps.{Move, runs, settles, Step, ends, emits, returns, spawns, syncs, settles_one, settles_pair}
 use Rattle.rules.specs.Runs.{posting, post_reply, Act, steps, posts, clocks, Run}
@@ -138,6 +141,11 @@ PostsLaw M = (w : Setting M) → Limited w.script → (tr : List (Record M)) (s 
 
 -- Steps
 
+-- each is smaller than all after it
+abbrev pub Rising : List ℕ → Type 0
+Rising [] = Unit {0}
+Rising (x ∷ xs) = AllByRecursion (λ y. x < y) xs × Rising xs
+
 abbrev pub of_move : Move → ℕ
 of_move (runs n) = n
 of_move (settles n i) = n
@@ -156,6 +164,16 @@ StepsOfAble M = (limit : ℕ) (w : Setting M) → LawfulKinds limit w → (tr : 
 abbrev pub ListedAble : Type 0 → Type 0
 ListedAble M = (w : Setting M) (s : State M) (t : Task M) → Memᴰ t (able_tasks w s) ↔ Able w s t
 
+-- The able tasks stand by rising number; and of a task that waits, just the open leaves are listed, rising.
+pub record Listed {M : Type 0} (w : Setting M) (s : State M) : Type 0 where
+  pub tasks_rise : Rising (map (λ t. t.number) (able_tasks w s))
+  pub leaves : (t : Task M) (y : ℕ) (ls : List (Leaf M)) → Memᴰ t s.tasks → t.wait ≡ waiting y ls
+      → (i : ℕ) → Memᴰ i (open_leaves w s t y 0 ls) ↔ ((l : Leaf M) × Open w s t y i l)
+  pub leaves_rise : (t : Task M) (y : ℕ) (ls : List (Leaf M)) → Rising (open_leaves w s t y 0 ls)
+
+abbrev pub ListedLaw : Type 0 → Type 0
+ListedLaw M = (w : Setting M) (tr : List (Record M)) (s : State M) → Run w tr s → Listed w s
+
 -- A run is quiet exactly when no step exists.
 abbrev pub QuietLaw : Type 0 → Type 0
 QuietLaw M = (limit : ℕ) (w : Setting M) → LawfulKinds limit w → (tr : List (Record M)) (s : State M) → Run w tr s
@@ -167,6 +185,18 @@ MovesLaw M = (limit : ℕ) (w : Setting M) → LawfulKinds limit w → (tr : Lis
     → (t : Task M) → Memᴰ t s.tasks
     → ((t.wait ≡ running) → (HasStep w s (runs t.number) ↔ Able w s t) × ((i : ℕ) → HasStep w s (settles t.number i) → ⊥))
     × ((y : ℕ) (ls : List (Leaf M)) → t.wait ≡ waiting y ls → ((i : ℕ) → HasStep w s (settles t.number i) ↔ Memᴰ i (open_leaves w s t y 0 ls)) × (HasStep w s (runs t.number) → ⊥))
+
+-- A task that runs has a step exactly where all that then live are at most 64: one that ends, emits or returns always, one that spawns below 64, and one that syncs where the tasks of its with-nacks find room.
+pub record Roomed {M : Type 0} (w : Setting M) (s : State M) (t : Task M) : Type 0 where
+  pub ends : instr_at w t ≡ None → HasStep w s (runs t.number)
+  pub emits : instr_at w t ≡ Some g.emit → HasStep w s (runs t.number)
+  pub returns : instr_at w t ≡ Some g.again → HasStep w s (runs t.number)
+  pub spawns : (b : ℕ) → instr_at w t ≡ Some (g.spawn b) → HasStep w s (runs t.number) ↔ (length s.tasks < 64)
+  pub syncs : (e : script.Event M) → instr_at w t ≡ Some (g.sync e) → HasStep w s (runs t.number) ↔ (length s.tasks + length (branches (sign_at w t) 0 e) ≤ 64)
+
+abbrev pub RoomLaw : Type 0 → Type 0
+RoomLaw M = (limit : ℕ) (w : Setting M) → LawfulKinds limit w → (tr : List (Record M)) (s : State M) → Run w tr s
+    → (t : Task M) → Memᴰ t s.tasks → t.wait ≡ running → Roomed w s t
 
 -- the tasks that take a step: the one that was named, and a partner
 abbrev pub steppers : {M : Type 0} {w : Setting M} {s : State M} {v : Move} {rs : List (Event M)} {s' : State M} → Step w s v rs s' → List ℕ
@@ -203,11 +233,6 @@ abbrev pub FrameLaw : Type 0 → Type 0
 FrameLaw M = (w : Setting M) (tr : List (Record M)) (s : State M) → Run w tr s → (rs : List (Event M)) (s' : State M) (a : Act w s rs s') → Framed w s rs s' a
 
 -- Numbers
-
--- each is smaller than all after it
-abbrev pub Rising : List ℕ → Type 0
-Rising [] = Unit {0}
-Rising (x ∷ xs) = AllByRecursion (λ y. x < y) xs × Rising xs
 
 -- none is larger than any after it
 abbrev pub NeverFalling : List ℕ → Type 0

@@ -1,5 +1,5 @@
 //! What holds of every run, for every message kind, script and base event kinds that keep the laws.
-ghost use Rattle.rules.specs.Laws.{SettledOnce, PairsJoin, OnesSettle, OffersLaw, PostsLaw, FrameLaw, SoonestLaw, StepsOfAble, ListedAble, MovesLaw, QuietLaw, NumbersLaw, LiveLaw, DeliveredLawful, DeliveredReplies, ChannelLaw};
+ghost use Rattle.rules.specs.Laws.{SettledOnce, PairsJoin, OnesSettle, OffersLaw, PostsLaw, FrameLaw, SoonestLaw, StepsOfAble, ListedAble, ListedLaw, MovesLaw, RoomLaw, QuietLaw, NumbersLaw, LiveLaw, DeliveredLawful, DeliveredReplies, ChannelLaw};
 ghost use Rattle.rules.specs.Branches.{BranchLaw};
 ghost use Rattle.rules.specs.Limits.{LimitsLaw};
 ghost use Rattle.rules.specs.Nacks.{NackLaw, VoidLaw, FireLaw};
@@ -37,6 +37,11 @@ pub fn just_the_able_tasks_have_steps<M>()
     ensures able { StepsOfAble M }
     ensures moves { MovesLaw M }
     ensures listed { ListedAble M }
+    ensures room { RoomLaw M }
+{}
+
+pub fn able_tasks_and_open_leaves_are_listed_in_order<M>()
+    ensures { ListedLaw M }
 {}
 
 pub fn quiet_when_no_step_exists<M>()
