@@ -11,7 +11,7 @@ use Rattle.rules.proofs.DeliveredKinds.{delivered_lawful}
 use Rattle.replay.specs.Policies.{Policy, Inside, longest_idle}
 use Rattle.replay.specs.Replays.{Call, Answer, wrote, Replay, begin_replay, Replays, trace_bytes}
 use Rattle.replay.specs.Worked as worked
-use Rattle.replay.specs.Worked.{with_weights, printed, a_turn, Prints, Shows, by_turns}
+use Rattle.replay.specs.Worked.{with_weights, printed, a_turn, Prints, Shows, by_turns, all_by_turns}
 use Rattle.replay.proofs.Refusing.{ReadOrRefused, Known}
 use Rattle.replay.proofs.Tracing.{begins_traced, replay_runs}
 use Rattle.replay.proofs.Once.{replay_determined}
@@ -103,19 +103,30 @@ post_shows = shows texts.post_text_is idle_inside known refl refl
     known : AllByRecursion (Known (with_weights worked.post_script)) worked.post_calls
     known = (letter, (letter, (letter, (letter, ((Ok (weight (pos 7) (lit< tt)), refl), ((Ok (weight (pos 8) (lit< tt)), refl), omega arith))))))
 
+pub clock_shows : Shows {P = Unit {0}} longest_idle tt worked.clock_text worked.clock_script worked.clock_calls worked.clock_answers worked.clock_lines
+unfolding computed digits
+clock_shows = shows texts.clock_text_is idle_inside (omega arith) refl refl
+
 pub variable_shows : Shows {P = Unit {0}} longest_idle tt worked.variable_text worked.variable_script worked.variable_calls worked.variable_answers worked.variable_lines
 unfolding computed digits
 variable_shows = shows texts.variable_text_is idle_inside (omega arith) refl refl
 
 -- By turns
 
+an_end : {X : Type 0} (p : Bool) (x : X) (xs : List X) → cond p (length (x ∷ xs) - 1) 0 < length (x ∷ xs)
+an_end true x xs = omega arith
+an_end false x xs = omega arith
+
 turns_inside : Inside by_turns
-turns_inside = record { task = λ p c cs. an_end p c cs; leaf = λ p i is. an_end p i is }
-  where
-    an_end : {X : Type 0} (p : Bool) (x : X) (xs : List X) → cond p (length (x ∷ xs) - 1) 0 < length (x ∷ xs)
-    an_end true x xs = omega arith
-    an_end false x xs = omega arith
+turns_inside = record { task = λ p c cs. omega arith; leaf = λ p i is. an_end p i is }
+
+all_turns_inside : Inside all_by_turns
+all_turns_inside = record { task = λ p c cs. an_end p c cs; leaf = λ p i is. an_end p i is }
 
 pub turns_shows : Shows by_turns false worked.turns_text worked.turns_script (replicate 5 a_turn) (replicate 4 (wrote 19) ++ (wrote 16 ∷ [])) worked.turns_lines
 unfolding computed digits
 turns_shows = shows texts.turns_text_is turns_inside (omega arith) refl refl
+
+pub all_turns_shows : Shows all_by_turns false worked.turns_text worked.turns_script (replicate 5 a_turn) (replicate 4 (wrote 19) ++ (wrote 16 ∷ [])) worked.turns_lines
+unfolding computed digits
+all_turns_shows = shows texts.turns_text_is all_turns_inside (omega arith) refl refl

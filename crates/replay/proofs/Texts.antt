@@ -3,7 +3,7 @@ use Rattle.std.proofs.Common.{refl, arith}
 use Rattle.std.specs.Fmt.{digits}
 use Rattle.message.specs.Weights.{weight_literal}
 use Rattle.rows.specs.Scripts.{ScriptOf}
-use Rattle.replay.specs.Worked.{first_text, first_script, wrap_text, wrap_script, branch_text, branch_script, instr_text, instr_script, pair_text, pair_script, lone_text, lone_script, post_text, post_script, variable_text, variable_script, turns_text, turns_script}
+use Rattle.replay.specs.Worked.{first_text, first_script, wrap_text, wrap_script, branch_text, branch_script, instr_text, instr_script, pair_text, pair_script, lone_text, lone_script, post_text, post_script, clock_text, clock_script, variable_text, variable_script, turns_text, turns_script}
 
 pub first_text_is : ScriptOf weight_literal first_text first_script
 unfolding digits
@@ -32,6 +32,10 @@ lone_text_is = record { within = record { ports = omega arith; first = omega ari
 pub post_text_is : ScriptOf weight_literal post_text post_script
 unfolding digits
 post_text_is = record { within = record { ports = omega arith; first = omega arith; others = tt }; written = refl }
+
+pub clock_text_is : ScriptOf weight_literal clock_text clock_script
+unfolding digits
+clock_text_is = record { within = record { ports = tt; first = omega arith; others = tt }; written = refl }
 
 pub variable_text_is : ScriptOf weight_literal variable_text variable_script
 unfolding digits

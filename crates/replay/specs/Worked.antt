@@ -207,7 +207,7 @@ lone_lines =
     ∷ (codes "1,0,start,1,0,0,0,,"
     ∷ (codes "2,0,sync,1,1,2,,," ∷ []))
 
--- posts: the refusals in their order, two messages of which the older comes out first, and a clock that may stand but not go back
+-- posts: the refusals in their order, two messages of which the older comes out first, and a clock that may not go back
 abbrev pub post_text : List ℕ
 post_text = codes "(mailbox 3)(task 0 (sync (recv 3)) (emit))"
 
@@ -226,11 +226,9 @@ post_calls =
     ∷ (post 576 2048 3 (codes "x")
     ∷ (post 576 2048 3 (codes "7")
     ∷ (post 576 2048 3 (codes "8")
-    ∷ (clock 2047 5
-    ∷ (clock 2048 5
     ∷ (clock 2048 5
     ∷ (clock 2048 4
-    ∷ (a_turn ∷ (a_turn ∷ (a_turn ∷ (a_turn ∷ (a_turn ∷ []))))))))))))))
+    ∷ (a_turn ∷ (a_turn ∷ (a_turn ∷ (a_turn ∷ (a_turn ∷ []))))))))))))
 
 abbrev pub post_answers : List Answer
 post_answers =
@@ -240,11 +238,9 @@ post_answers =
     ∷ (sent_away (Message (InPost (record { at = 0 })))
     ∷ (wrote 19
     ∷ (wrote 19
-    ∷ (sent_away (Run ShortPage)
-    ∷ (wrote 18
     ∷ (wrote 18
     ∷ (sent_away (Run ClockBack)
-    ∷ (wrote 19 ∷ (wrote 19 ∷ (wrote 19 ∷ (wrote 16 ∷ (sent_away (Run Quiet) ∷ []))))))))))))))
+    ∷ (wrote 19 ∷ (wrote 19 ∷ (wrote 19 ∷ (wrote 16 ∷ (sent_away (Run Quiet) ∷ []))))))))))))
 
 abbrev pub post_lines : List (List ℕ)
 post_lines =
@@ -253,11 +249,31 @@ post_lines =
     ∷ (codes "2,0,post,0,3,,,,7"
     ∷ (codes "3,0,post,0,3,,,,8"
     ∷ (codes "4,5,clock,0,,,,,"
-    ∷ (codes "5,5,clock,0,,,,,"
-    ∷ (codes "6,5,sync,1,1,1,,,"
-    ∷ (codes "7,5,one,1,1,0,,,7"
-    ∷ (codes "8,5,emit,1,1,,,,7"
-    ∷ (codes "9,5,end,1,,,,," ∷ [])))))))))
+    ∷ (codes "5,5,sync,1,1,1,,,"
+    ∷ (codes "6,5,one,1,1,0,,,7"
+    ∷ (codes "7,5,emit,1,1,,,,7"
+    ∷ (codes "8,5,end,1,,,,," ∷ []))))))))
+
+-- a clock may stand but not go back, and is refused on a page that is too short
+abbrev pub clock_text : List ℕ
+clock_text = codes "(task 0)"
+
+abbrev pub clock_script : Script Weight
+clock_script = record { ports = []; first = record { number = 0; instrs = [] }; others = [] }
+
+abbrev pub clock_calls : List Call
+clock_calls = clock 2047 5 ∷ (clock 2048 5 ∷ (clock 2048 5 ∷ (clock 2048 4 ∷ (a_turn ∷ (a_turn ∷ [])))))
+
+abbrev pub clock_answers : List Answer
+clock_answers = sent_away (Run ShortPage) ∷ (wrote 18 ∷ (wrote 18 ∷ (sent_away (Run ClockBack) ∷ (wrote 16 ∷ (sent_away (Run Quiet) ∷ [])))))
+
+abbrev pub clock_lines : List (List ℕ)
+clock_lines =
+    codes "seq,ms,kind,task,a,b,c,d,message"
+    ∷ (codes "1,0,start,1,0,0,0,,"
+    ∷ (codes "2,5,clock,0,,,,,"
+    ∷ (codes "3,5,clock,0,,,,,"
+    ∷ (codes "4,5,end,1,,,,," ∷ []))))
 
 -- an IVar keeps its message and an MVar loses it; a give shows the message given and results in a blank; timeouts are due after the clock of their sync
 abbrev pub variable_text : List ℕ
@@ -311,11 +327,18 @@ variable_lines =
     ∷ (codes "19,10,one,1,7,1,,,0"
     ∷ (codes "20,10,end,1,,,,," ∷ []))))))))))))))))))))
 
--- a policy that names the first and the last place by turns, of tasks and of leaves: each naming finds the state that the one before it left
+-- a policy that names the first and the last leaf by turns: each naming finds the state that the one before it left
 abbrev pub by_turns : Policy Bool
 by_turns = record {
-  name_task = λ p cs. record { place = cond p (length cs - 1) 0; next = not p };
+  name_task = λ p cs. record { place = 0; next = p };
   name_leaf = λ p is. record { place = cond p (length is - 1) 0; next = not p };
+}
+
+-- the same of tasks and leaves alike
+abbrev pub all_by_turns : Policy Bool
+all_by_turns = record {
+  name_task = λ p cs. record { place = cond p (length cs - 1) 0; next = not p };
+  name_leaf = by_turns.name_leaf;
 }
 
 abbrev pub turns_text : List ℕ
@@ -349,8 +372,10 @@ pub record Worked : Type 0 where
   pub pairs : Prints pair_text pair_script pair_lines
   pub lone : Shows {P = Unit {0}} longest_idle tt lone_text lone_script lone_calls lone_answers lone_lines
   pub posts : Shows {P = Unit {0}} longest_idle tt post_text post_script post_calls post_answers post_lines
+  pub clocks : Shows {P = Unit {0}} longest_idle tt clock_text clock_script clock_calls clock_answers clock_lines
   pub variables : Shows {P = Unit {0}} longest_idle tt variable_text variable_script variable_calls variable_answers variable_lines
   pub turns : Shows by_turns false turns_text turns_script (replicate 5 a_turn) (replicate 4 (wrote 19) ++ (wrote 16 ∷ [])) turns_lines
+  pub all_turns : Shows all_by_turns false turns_text turns_script (replicate 5 a_turn) (replicate 4 (wrote 19) ++ (wrote 16 ∷ [])) turns_lines
   pub largest : Reads weight_literal (codes "2147483647") (Ok (weight (pos 2147483647) (lit< tt)))
   pub too_large : Reads weight_literal (codes "2147483648") (Err (record { at = 9 }))
   pub minus_zero : Reads weight_literal (codes "-0") (Err (record { at = 1 }))
