@@ -9,3 +9,4 @@ pub mod Determined
 pub mod Once
 pub mod Images
 pub mod Props
+pub mod Parsing

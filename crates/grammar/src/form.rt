@@ -1,15 +1,16 @@
 ghost use Rattle.std.specs.Prelude.{◌≡◌, IfOk};
 ghost use Rattle.std.specs.List.{AllByRecursion};
 ghost use Rattle.grammar.specs.declared.form.FormFault.TheVariants.{Memory};
+ghost use Rattle.grammar.specs.declared.form.ParseFault.TheVariants.{Memory as NoMemory};
 ghost use Rattle.grammar.specs.Stacks.{Stepped, suits, ended};
-ghost use Rattle.grammar.specs.Verdicts.{FormVerdict};
+ghost use Rattle.grammar.specs.Verdicts.{FormVerdict, ParseVerdict};
 ghost use Rattle.tokens.specs.Reading.{Classified};
 
 use crate::items::{Item, at_token};
 use crate::part::Part;
 use crate::words::Use;
 use std::alloc::{AllocError, AllocFailed, Global};
-use tokens::token::Token;
+use tokens::token::{Scanner, Token};
 
 // Why tokens are no script.
 #[derive(Clone, Copy, Debug, PartialEq, Eq)]
@@ -32,6 +33,31 @@ impl<T: Drop> From<AllocFailed<T>> for FormFault {
 
     fn from(_e: AllocFailed<T>) -> FormFault {
         FormFault::Memory
+    }
+}
+
+// Why a text is no script.
+#[derive(Clone, Copy, Debug, PartialEq, Eq)]
+pub enum ParseFault {
+    // The place of the first token with which no script goes on, or the text's length where tokens
+    // are missing.
+    Misfit { at: usize },
+    Memory,
+}
+
+impl From<AllocError> for ParseFault {
+    ghost from_gives = { λ _ r. r ≡ NoMemory };
+
+    fn from(_e: AllocError) -> ParseFault {
+        ParseFault::Memory
+    }
+}
+
+impl<T: Drop> From<AllocFailed<T>> for ParseFault {
+    ghost from_gives = { λ _ r. r ≡ NoMemory };
+
+    fn from(_e: AllocFailed<T>) -> ParseFault {
+        ParseFault::Memory
     }
 }
 
@@ -95,5 +121,27 @@ pub fn parts<'a>(heap: Global, tokens: &[Token<'a>]) -> Result<Vec<Part<'a>>, Fo
         Err(FormFault::Misfit {
             token: tokens.len(),
         })
+    }
+}
+
+// The parts of a script by its text, or where the text stops being a script's. Each token goes into its
+// part as it is found: all tokens beside all parts would take as much memory again.
+pub fn parse<'a>(heap: Global, text: &'a [u8]) -> Result<Vec<Part<'a>>, ParseFault>
+    ensures { ParseVerdict text.now result }
+{
+    let mut stack = Vec::new(heap);
+    stack.push(Item::Top)?;
+    let mut found = Vec::new(heap);
+    let mut scanner = Scanner::new(text);
+    while let Some(token) = scanner.next_token() {
+        let Some(purpose) = step_on(&mut stack, token)? else {
+            return Err(ParseFault::Misfit { at: token.place() });
+        };
+        found.push(Part { purpose, token })?;
+    }
+    if is_end(&stack) {
+        Ok(found)
+    } else {
+        Err(ParseFault::Misfit { at: text.len() })
     }
 }

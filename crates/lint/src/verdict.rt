@@ -1,5 +1,5 @@
 // What is said of a script.
-use grammar::form::parts;
+use grammar::form::parse;
 use grammar::words::{Keyword, PortKind, Use};
 use message::kind::Message;
 use rows::row::Rows;
@@ -7,7 +7,6 @@ use script::check::{Text, check};
 use script::checked::Checked;
 use script::fault::Fault;
 use std::alloc::Global;
-use tokens::token::tokens;
 
 // An accepted script, in numbers.
 #[derive(Clone, Copy)]
@@ -39,11 +38,7 @@ fn is_event(purpose: Use) -> bool {
 }
 
 fn count_events(heap: Global, text: &[u8]) -> Result<usize, Fault> {
-    let tokens = tokens(heap, text)?;
-    // An accepted text has the form of a script, so only memory can be wanting.
-    let Ok(parts) = parts(heap, &tokens) else {
-        return Err(Fault::Memory);
-    };
+    let parts = parse(heap, text)?;
     Ok(parts.iter().filter(|part| is_event(part.purpose)).count())
 }
 
@@ -55,8 +50,8 @@ fn count_bodies<M: Message>(rows: &Rows<M>) -> usize {
     (0..32).filter(|b| rows.body(*b).is_some()).count()
 }
 
-// Checks the script, and counts what an accepted one declares.
-pub fn judge<M: Message>(heap: Global, text: &[u8]) -> Result<Counts, Fault> {
+// Checks the script, and counts what an accepted one declares, but for its events.
+fn check_declared<M: Message>(heap: Global, text: &[u8]) -> Result<Counts, Fault> {
     let mut table: Checked<M> = Checked::new(heap);
     check(heap, Text::new(text), &mut table)?;
     let rows = table.rows();
@@ -66,6 +61,14 @@ pub fn judge<M: Message>(heap: Global, text: &[u8]) -> Result<Counts, Fault> {
         ivars: count_ports(rows, PortKind::Ivar),
         mvars: count_ports(rows, PortKind::Mvar),
         bodies: count_bodies(rows),
-        events: count_events(heap, text)?,
+        events: 0,
     })
+}
+
+// Checks the script, and counts what is in an accepted one. The rows are let go before its parts are
+// made again for the events.
+pub fn judge<M: Message>(heap: Global, text: &[u8]) -> Result<Counts, Fault> {
+    let declared = check_declared::<M>(heap, text)?;
+    let events = count_events(heap, text)?;
+    Ok(Counts { events, ..declared })
 }

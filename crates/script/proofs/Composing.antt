@@ -4,7 +4,6 @@ use Rattle.std.proofs.lemmas.List.{take-append-drop, take-take, append-nil}
 use Rattle.std.proofs.lemmas.Bool.{cases_lt, false≢true}
 use Rattle.tokens.specs.Places.{First, Nowhere, Smallest}
 use Rattle.tokens.specs.Tokens.{Lexeme, Placed, tokens, lexemes, place, place_of}
-use Rattle.tokens.specs.Tokens.{lexeme as bare}
 use Rattle.tokens.specs.declared.token.Token.{Token}
 use Rattle.tokens.specs.Reading.{placed, lexeme}
 use Rattle.tokens.specs.Tokenised.{Tokenised}
@@ -14,15 +13,19 @@ use Rattle.grammar.specs.Grammar.{Part, IsScript, Viable}
 use Rattle.grammar.specs.Forms.{MisfitAt, Misfit, Uses, with_uses}
 use Rattle.grammar.specs.declared.part.Part as code
 use Rattle.grammar.specs.Parts.{parts_of, bytes}
-use Rattle.grammar.specs.Verdicts.{AreParts}
 use Rattle.grammar.proofs.Determined.{uses_determined}
 use Rattle.grammar.proofs.Parts.{told_together}
+use Rattle.grammar.proofs.Parsing.{tokens_lexemes}
 use Rattle.passes.specs.Parts.{nth}
 use Rattle.message.specs.declared.literal.LiteralFault.{LiteralFault}
 use Rattle.message.specs.Literals.{Longest}
+use Rattle.grammar.specs.declared.form.ParseFault.{ParseFault}
+use Rattle.grammar.specs.declared.form.ParseFault.TheVariants as parse
+use Rattle.grammar.specs.Verdicts.{ParseVerdict}
 use Rattle.script.specs.declared.fault.Fault.{Fault}
+use Rattle.script.specs.Faults.{as_fault}
 use Rattle.script.specs.Refusals.{Rule, too_long, foreign_byte, too_deep, misfit, out_of_range, misnamed, over_limit, no_message, rule_number, Broken, IsInScript, Refused, RefusedLiteral}
-use Rattle.script.specs.Stages.{KeptBelow, Breaks, Formed, FaultAt, Stage}
+use Rattle.script.specs.Stages.{KeptBelow, Breaks, Formed, FaultAt, Stage, Unformed}
 
 abbrev purposes : List code.Part → List Use
 purposes ps = map (λ p. p.purpose) ps
@@ -153,19 +156,6 @@ parts_placed (p ∷ ps) = ap (λ l. placed p.token ∷ l) (parts_placed ps)
 pub part_place : (text : List ℕ) (ps qs : List code.Part) → Formed text ps → qs ≡ ps → (k r : ℕ) → r ≡ place_of (map (λ p. placed p.token) qs) (length text) k → r ≡ place_of (tokens text) (length text) k
 part_place text ps qs f same k r e = e ∙ ap (λ ts. place_of ts (length text) k) (ap (map (λ p. placed p.token)) same ∙ parts_placed ps ∙ f.tokens.tokens_are)
 
-map_lexeme : (ks : List Token) → map lexeme ks ≡ map bare (map placed ks)
-map_lexeme [] = refl
-map_lexeme (k ∷ ks) = ap (λ l. lexeme k ∷ l) (map_lexeme ks)
-
-tokens_lexemes : (text : List ℕ) (ks : List Token) → Tokenised text ks → map lexeme ks ≡ lexemes text
-tokens_lexemes text ks t = map_lexeme ks ∙ ap (map bare) t.tokens_are
-
--- tokens of the text in their parts
-pub formed : (text : List ℕ) (ks qs : List Token) (ps : List code.Part) → Tokenised text ks → qs ≡ ks → AreParts qs ps → Formed text ps
-formed text ks qs ps t same a =
-    let P : List Lexeme → Type 0 = λ ls. Uses ls (purposes ps) in
-    record { tokens = subst (Tokenised text) (sym (a.tokens_are ∙ same)) t; uses = subst P (ap (map lexeme) same ∙ tokens_lexemes text ks t) a.uses }
-
 pub parts_are : (text : List ℕ) (ps : List code.Part) → Formed text ps → parts_of ps ≡ with_uses (purposes ps) (lexemes text)
 parts_are text ps f = sym (told_together ps) ∙ ap (with_uses (purposes ps)) (tokens_lexemes text (the_tokens ps) f.tokens)
 
@@ -204,11 +194,7 @@ stage_literal literal text ps qs f same k at fault e longest =
     let Q : List Part → Type 0 = λ ts. Longest literal (bytes (nth ts k)) fault.at in
     record { uses = purposes ps; used = f.uses; token = k; place = e; longest = subst Q (ap parts_of same ∙ parts_are text ps f) longest }
 
--- The form of the code's tokens is that of the text's.
-
-pub form_first : (text : List ℕ) (ks ps qs : List Token) → Tokenised text ks → ps ≡ ks → qs ≡ ks → (k at : ℕ) → at ≡ place_of (map placed ps) (length text) k → MisfitAt (map lexeme qs) k → First (Misfit text) at
-form_first text ks ps qs t pk qk k at e m =
-    let same : at ≡ place_of (tokens text) (length text) k = e ∙ ap (λ ts. place_of ts (length text) k) (ap (map placed) pk ∙ t.tokens_are) in
-    let Q : List Lexeme → Type 0 = λ ls. MisfitAt ls k in
-    let R : ℕ → Type 0 = λ i. First (Misfit text) i in
-    subst R (sym same) (misfit_first text k (subst Q (ap (map lexeme) qk ∙ tokens_lexemes text ks t) m))
+-- what is no script is refused where no script goes on, which is the first place
+pub unformed : (text : List ℕ) (fault : ParseFault) → ParseVerdict text (Err fault) → Unformed text (as_fault fault)
+unformed text (parse.Misfit at) m = inr (at, refl, subst (First (Misfit text)) (sym m.2) (misfit_first text m.0 m.1))
+unformed text parse.Memory m = inl refl

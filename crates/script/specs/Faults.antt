@@ -6,6 +6,8 @@ use Rattle.script.specs.declared.fault.Fault.TheVariants.{Text, Form, Names, Mes
 use Rattle.script.specs.declared.fault.FormFault.TheVariants.{Misfit, OutOfRange}
 use Rattle.script.specs.declared.fault.NamesFault.TheVariants.{Misnamed, OverLimit}
 use Rattle.script.specs.declared.fault.MessageFault.TheVariants.{InScript, InPost}
+use Rattle.grammar.specs.declared.form.ParseFault.{ParseFault}
+use Rattle.grammar.specs.declared.form.ParseFault.TheVariants as parse
 
 -- want of memory is no refusal, and has no number
 abbrev pub fault_number : Fault → ℕ
@@ -27,3 +29,8 @@ fault_place (Names (OverLimit at)) = at
 fault_place (Message (InScript at f)) = at
 fault_place (Message (InPost f)) = 0
 fault_place Memory = 0
+
+-- what a text that is no script is refused with
+abbrev pub as_fault : ParseFault → Fault
+as_fault (parse.Misfit at) = Form (Misfit at)
+as_fault parse.Memory = Memory

@@ -1,7 +1,8 @@
 ghost use Rattle.std.specs.Prelude.{◌≡◌};
 ghost use Rattle.script.specs.declared.fault.Fault.TheVariants.{Text, Form, Names, Message, Memory};
-ghost use Rattle.script.specs.Faults.{fault_number, fault_place};
+ghost use Rattle.script.specs.Faults.{fault_number, fault_place, as_fault};
 
+use grammar::form::ParseFault;
 use message::literal::LiteralFault;
 use std::alloc::AllocError;
 use tokens::text::TextFault;
@@ -75,6 +76,17 @@ impl From<TextFault> for Fault {
 
     fn from(fault: TextFault) -> Fault {
         Fault::Text(fault)
+    }
+}
+
+impl From<ParseFault> for Fault {
+    ghost from_gives = { λ f r. r ≡ as_fault f };
+
+    fn from(fault: ParseFault) -> Fault {
+        match fault {
+            ParseFault::Misfit { at } => Fault::Form(FormFault::Misfit { at }),
+            ParseFault::Memory => Fault::Memory,
+        }
     }
 }
 

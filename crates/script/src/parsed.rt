@@ -15,7 +15,7 @@ ghost use Rattle.grammar.proofs.Props.{Uses-prop};
 
 use crate::checked::Checked;
 use crate::fault::{Fault, FormFault, MessageFault, NamesFault};
-use grammar::form::{FormFault as NoScript, parts};
+use grammar::form::parse;
 use grammar::part::Part;
 use message::kind::Message;
 use passes::limits::first_over_limit;
@@ -24,7 +24,6 @@ use passes::names::first_misnamed;
 use passes::ranges::first_out_of_range;
 use rows::row::Rows;
 use std::alloc::Global;
-use tokens::token::tokens;
 
 // A text in the form of a script, by its parts.
 #[derive(Drop)]
@@ -39,16 +38,8 @@ impl<'a> Parsed<'a> {
         ensures text { IfOk result (λ p. p.text.now ≡ text.now) }
         ensures fault { IfErr result (Unformed text.now) }
     {
-        let tokens = tokens(heap, text)?;
-        // Its fault is placed by the tokens, so no `From` makes it.
-        match parts(heap, &tokens) {
-            Ok(parts) => Ok(Parsed { text, parts }),
-            Err(NoScript::Misfit { token }) => {
-                let at = tokens.get(token).map_or(text.len(), |token| token.place());
-                Err(Fault::Form(FormFault::Misfit { at }))
-            }
-            Err(NoScript::Memory) => Err(Fault::Memory),
-        }
+        let parts = parse(heap, text)?;
+        Ok(Parsed { text, parts })
     }
 
     // The place of a part, or the text's length past the last.
@@ -111,15 +102,17 @@ impl<'a> Parsed<'a> {
         }
     }
 
-    // Tries the rules that are beyond the form, and makes the rows where all are kept.
-    pub fn admit<M: Message>(&self, heap: Global) -> Result<Checked<M>, Fault>
-        ensures { KeptBelow M.Literal.literal self.now.text.now 4 → Answers M.Literal.literal self.now.text.now result }
+    // Tries the rules that are beyond the form, and makes the rows where all are kept. The parts are
+    // done with before the text is copied.
+    pub fn admit<M: Message>(self, heap: Global) -> Result<Checked<M>, Fault>
+        ensures { KeptBelow M.Literal.literal self.entry.text.now 4 → Answers M.Literal.literal self.entry.text.now result }
     {
         self.check_ranges()?;
         self.check_names()?;
         self.check_limits()?;
         self.check_literals::<M>()?;
         let rows = Rows::build(heap, &self.parts)?;
+        drop(self.parts);
         let text = Vec::from_slice(heap, self.text)?;
         Ok(Checked { text, rows })
     }

@@ -5,3 +5,4 @@ pub mod TextFaults
 pub mod Reading
 pub mod Tokenised
 pub mod Scanning
+pub mod Steps

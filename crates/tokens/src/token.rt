@@ -1,9 +1,10 @@
-ghost use Rattle.std.specs.Prelude.{◌≡◌, IfOk};
+ghost use Rattle.std.specs.Prelude.{◌≡◌, ◌≤◌, length, IfOk};
 ghost use Rattle.std.specs.List.{prefix_len};
 ghost use Rattle.tokens.specs.Tokens.{class, place};
 ghost use Rattle.tokens.specs.Reading.{placed};
 ghost use Rattle.tokens.specs.Tokenised.{Tokenised, token_bytes};
-ghost use Rattle.tokens.specs.Scanning.{meant, in_run, TokenOfRun};
+ghost use Rattle.tokens.specs.Scanning.{meant, in_run, in_gap, TokenOfRun};
+ghost use Rattle.tokens.specs.Steps.{Scanned};
 
 use crate::integer::is_integer;
 use std::alloc::{AllocError, Global};
@@ -70,6 +71,15 @@ fn run_length(text: &[u8]) -> usize
         .count()
 }
 
+// How many separators stand at the front of the text.
+fn gap_length(text: &[u8]) -> usize
+    ensures { result ≡ prefix_len in_gap text.now }
+{
+    text.iter()
+        .take_while(|b| Class::from(**b) == Class::Separator)
+        .count()
+}
+
 fn run_token<'a>(at: usize, text: &'a [u8]) -> Token<'a>
     ensures { TokenOfRun at text.now result }
 {
@@ -80,30 +90,58 @@ fn run_token<'a>(at: usize, text: &'a [u8]) -> Token<'a>
     }
 }
 
+// Goes over a text from left to right, token by token.
+#[derive(Clone, Copy)]
+pub struct Scanner<'a> {
+    text: &'a [u8],
+    // What is left of the text, which ends with it.
+    rest: &'a [u8],
+    ghost within: { length rest.now ≤ length text.now },
+}
+
+impl<'a> Scanner<'a> {
+    pub fn new(text: &'a [u8]) -> Scanner<'a>
+        ensures text { result.text.now ≡ text.now }
+        ensures rest { result.rest.now ≡ text.now }
+    {
+        Scanner { text, rest: text }
+    }
+
+    // The next token, a bracket or a longest run; None where the text ends.
+    pub fn next_token(&mut self) -> Option<Token<'a>>
+        ensures text { self.new.text.now ≡ self.old.text.now }
+        ensures step { Scanned self.old.text.now self.old.rest.now self.new.rest.now result }
+    {
+        let (_, rest) = self.rest.split_at(gap_length(self.rest));
+        let (&b, tail) = rest.split_first()?;
+        let at = self.text.len() - rest.len();
+        match Class::from(b) {
+            Class::Open => {
+                self.rest = tail;
+                Some(Token::Open { at })
+            }
+            Class::Close => {
+                self.rest = tail;
+                Some(Token::Close { at })
+            }
+            // The separators are passed over already.
+            Class::Separator | Class::Run => {
+                let (run, after) = rest.split_at(run_length(rest));
+                self.rest = after;
+                Some(run_token(at, run))
+            }
+        }
+    }
+}
+
 // The brackets and the longest runs, from left to right.
 pub fn tokens<'a>(heap: Global, text: &'a [u8]) -> Result<Vec<Token<'a>>, AllocError>
     ensures { IfOk result (λ v. Tokenised text.now v.items) }
 {
     let mut found = Vec::new(heap);
-    let mut rest = text;
-    while let Some((&b, tail)) = rest.split_first() {
-        let at = text.len() - rest.len();
-        match Class::from(b) {
-            Class::Separator => rest = tail,
-            Class::Open => {
-                found.push(Token::Open { at })?;
-                rest = tail;
-            }
-            Class::Close => {
-                found.push(Token::Close { at })?;
-                rest = tail;
-            }
-            Class::Run => {
-                let (run, after) = rest.split_at(run_length(rest));
-                found.push(run_token(at, run))?;
-                rest = after;
-            }
-        }
+    let mut scanner = Scanner::new(text);
+    while let Some(token) = scanner.next_token() {
+        found.push(token)?;
     }
     Ok(found)
 }
