@@ -6,6 +6,9 @@ use std::io;
 use std::io::{BufRead, BufReader};
 use trace::line::read_line;
 
+// Nothing says that an input ends, so the lines are counted.
+const MOST_LINES: u32 = 1_000_000;
+
 fn print_verdict(rt: &impl Print, line: &[u8]) -> io::Result<()> {
     match read_line::<Weight>(line) {
         Ok(record) => rt.println(record.event.kind()),
@@ -16,8 +19,7 @@ fn print_verdict(rt: &impl Print, line: &[u8]) -> io::Result<()> {
 fn run(rt: &HostRuntime) -> io::Result<()> {
     let mut input = BufReader::new(rt.alloc(), rt.stdin())?;
     let mut line = Vec::new(rt.alloc());
-    // A loop has to end, and nothing says that an input does: so it is a count.
-    for _ in 0..u64::MAX {
+    for _ in 0..MOST_LINES {
         line.clear();
         if input.read_until(b'\n', &mut line)? == 0 {
             break;
