@@ -23,15 +23,6 @@ is_runs runs = true
 abbrev pub in_run : ℕ → Bool
 in_run b = is_runs (class b)
 
-abbrev pub is_parts : t.Class → Bool
-is_parts parts = true
-is_parts opens = false
-is_parts closes = false
-is_parts runs = false
-
-abbrev pub in_gap : ℕ → Bool
-in_gap b = is_parts (class b)
-
 -- the token of a run that stands at i
 pub record TokenOfRun (i : ℕ) (bytes : List ℕ) (k : Token) : Type 0 where
   pub stands : placed k ≡ at i (atom bytes)

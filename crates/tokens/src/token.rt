@@ -1,9 +1,9 @@
-ghost use Rattle.std.specs.Prelude.{◌≡◌, ◌≤◌, length, IfOk};
+ghost use Rattle.std.specs.Prelude.{◌≡◌, ◌-◌, ◌≤◌, length, IfOk};
 ghost use Rattle.std.specs.List.{prefix_len};
 ghost use Rattle.tokens.specs.Tokens.{class, place};
 ghost use Rattle.tokens.specs.Reading.{placed};
 ghost use Rattle.tokens.specs.Tokenised.{Tokenised, token_bytes};
-ghost use Rattle.tokens.specs.Scanning.{meant, in_run, in_gap, TokenOfRun};
+ghost use Rattle.tokens.specs.Scanning.{meant, in_run, TokenOfRun};
 ghost use Rattle.tokens.specs.Steps.{Scanned};
 
 use crate::integer::is_integer;
@@ -71,15 +71,6 @@ fn run_length(text: &[u8]) -> usize
         .count()
 }
 
-// How many separators stand at the front of the text.
-fn gap_length(text: &[u8]) -> usize
-    ensures { result ≡ prefix_len in_gap text.now }
-{
-    text.iter()
-        .take_while(|b| Class::from(**b) == Class::Separator)
-        .count()
-}
-
 fn run_token<'a>(at: usize, text: &'a [u8]) -> Token<'a>
     ensures { TokenOfRun at text.now result }
 {
@@ -107,30 +98,40 @@ impl<'a> Scanner<'a> {
         Scanner { text, rest: text }
     }
 
+    // The offset of what is left.
+    fn place(&self) -> usize
+        ensures { result ≡ length self.now.text.now - length self.now.rest.now }
+    {
+        self.text.len() - self.rest.len()
+    }
+
     // The next token, a bracket or a longest run; None where the text ends.
     pub fn next_token(&mut self) -> Option<Token<'a>>
         ensures text { self.new.text.now ≡ self.old.text.now }
         ensures step { Scanned self.old.text.now self.old.rest.now self.new.rest.now result }
     {
-        let (_, rest) = self.rest.split_at(gap_length(self.rest));
-        let (&b, tail) = rest.split_first()?;
-        let at = self.text.len() - rest.len();
-        match Class::from(b) {
-            Class::Open => {
-                self.rest = tail;
-                Some(Token::Open { at })
-            }
-            Class::Close => {
-                self.rest = tail;
-                Some(Token::Close { at })
-            }
-            // The separators are passed over already.
-            Class::Separator | Class::Run => {
-                let (run, after) = rest.split_at(run_length(rest));
-                self.rest = after;
-                Some(run_token(at, run))
+        while let Some((&b, tail)) = self.rest.split_first() {
+            match Class::from(b) {
+                Class::Separator => self.rest = tail,
+                Class::Open => {
+                    let at = self.place();
+                    self.rest = tail;
+                    return Some(Token::Open { at });
+                }
+                Class::Close => {
+                    let at = self.place();
+                    self.rest = tail;
+                    return Some(Token::Close { at });
+                }
+                Class::Run => {
+                    let at = self.place();
+                    let (run, after) = self.rest.split_at(run_length(self.rest));
+                    self.rest = after;
+                    return Some(run_token(at, run));
+                }
             }
         }
+        None
     }
 }
 
