@@ -5,10 +5,15 @@ ghost use Rattle.std.specs.Prelude.{◌≡◌, ◌≤◌, min, length};
 ghost use Rattle.excerpt.specs.Lines.{line_feeds, LineAt};
 ghost use Rattle.excerpt.specs.Windows.{Window, ExcerptOf, shown_byte};
 
-use std::ops::Range;
-
 // So many bytes of a line are shown at most.
 const WIDEST: usize = 72;
+
+// Some bytes of a text; `end` is the place after the last of them.
+#[derive(Clone, Copy, Debug, PartialEq, Eq)]
+pub struct Span {
+    pub start: usize,
+    pub end: usize,
+}
 
 // What is shown of a place: its line, or the part around it. Line and column count from 0, and
 // `caret` counts the shown bytes before the place.
@@ -30,7 +35,7 @@ pub fn line_feeds(text: &[u8]) -> usize
 }
 
 // The line that the place lies in, which past the text's end is its last.
-pub fn line_of(text: &[u8], at: usize) -> Range<usize>
+pub fn line_of(text: &[u8], at: usize) -> Span
     ensures { LineAt text.now (min at (length text.now)) result.start result.end }
 {
     let at = at.min(text.len());
@@ -43,23 +48,26 @@ pub fn line_of(text: &[u8], at: usize) -> Range<usize>
         .iter()
         .position(|b| *b == b'\n')
         .map_or(text.len(), |i| at + i);
-    start..end
+    Span { start, end }
 }
 
 // The part of a line that is shown: all of it, or as much as there is room for around the place.
-fn window(line: &Range<usize>, at: usize) -> Range<usize>
-    requires from { line.now.start ≤ at }
-    requires to { at ≤ line.now.end }
-    ensures { Window line.now.start line.now.end at result.start result.end }
+fn window(line: Span, at: usize) -> Span
+    requires from { line.start ≤ at }
+    requires to { at ≤ line.end }
+    ensures { Window line.start line.end at result.start result.end }
 {
-    if line.len() <= WIDEST {
-        return line.start..line.end;
+    if line.end - line.start <= WIDEST {
+        return line;
     }
     let start = at
         .saturating_sub(WIDEST / 2)
         .max(line.start)
         .min(line.end - WIDEST);
-    start..start + WIDEST
+    Span {
+        start,
+        end: start + WIDEST,
+    }
 }
 
 pub fn excerpt_at(text: &[u8], at: usize) -> Excerpt<'_>
@@ -67,14 +75,14 @@ pub fn excerpt_at(text: &[u8], at: usize) -> Excerpt<'_>
 {
     let at = at.min(text.len());
     let line = line_of(text, at);
-    let part = window(&line, at);
+    let part = window(line, at);
     Excerpt {
         line: line_feeds(&text[..at]),
         column: at - line.start,
         is_cut_before: line.start < part.start,
+        bytes: &text[part.start..part.end],
         is_cut_after: part.end < line.end,
         caret: at - part.start,
-        bytes: &text[part],
     }
 }
 
