@@ -1,20 +1,26 @@
 -- What has been counted, and a walk over each two tokens that follow each other.
-use Rattle.std.proofs.Common.{◌≡◌, ℕ, ◌+◌, ◌^◌, ◌<◌, ◌≤◌, Bool, false, List, [], ◌∷◌, ◌++◌, length, get_or, take, drop, Some, IsTrue, ◌↔◌, Option, sym, refl, ap, ◌∙◌, subst, ap₂, arith, length-drop, Bor}
+use Rattle.std.proofs.Common.{◌≡◌, ℕ, zero, suc, ◌+◌, ◌^◌, ◌<◌, ◌≤◌, Bool, false, List, [], ◌∷◌, ◌++◌, length, map, get_or, take, drop, Some, None, IsTrue, ◌↔◌, Option, sym, refl, ap, ◌∙◌, subst, ap₂, arith, length-drop, Bor}
 use Rattle.std.specs.declared.iter.Enumerate.{Enumerate}
 use Rattle.std.specs.declared.slice.Windows.{Windows}
 use Rattle.std.specs.Slice.Iter.{windows_rest, windows_size, windows_steps}
 use Rattle.std.specs.Iterator.Adapters.{enumerate_source, enumerate_count, enumerate_steps}
-use Rattle.std.proofs.lemmas.List.{get_or-drop, get_or-take, drop-drop, take_more, length-map, length-take}
+use Rattle.std.proofs.lemmas.List.{get_or-drop, get_or-take, get_or_past, drop-drop, take_more, length-map, length-take}
 use Rattle.std.proofs.lemmas.Bool.{both_ways}
+use Rattle.tokens.specs.Places.{Smallest}
+use Rattle.tokens.specs.Tokens.{Lexeme}
+use Rattle.tokens.specs.Reading.{lexeme}
 use Rattle.grammar.specs.declared.words.Use.{Use}
 use Rattle.grammar.specs.declared.words.Use.TheVariants.{Bracket, Head, Test, Number, Literal}
+use Rattle.grammar.specs.declared.words.BracketUse.TheVariants.{Close}
 use Rattle.grammar.specs.declared.part.Part as code
+use Rattle.grammar.specs.Forms.{with_uses}
 use Rattle.grammar.specs.Grammar.{Part}
 use Rattle.grammar.specs.Parts.{told, parts_of}
+use Rattle.grammar.proofs.Parts.{told_together}
 use Rattle.passes.specs.Parts.{nth}
 use Rattle.passes.specs.Limits.{Counted, leaf, nack, other_event, instr, body, other, Tally, nothing_yet, with_counted, with_use, tally, Full, FullFor, IsOverLimit}
 use Rattle.passes.specs.declared.limits.Tally as counts
-use Rattle.passes.specs.Tallies.{tallied, counted_use, Room}
+use Rattle.passes.specs.Tallies.{tallied, counted_use, Room, FirstOver}
 use Rattle.passes.proofs.Firsts.{Passed, passed_more, no_part, nth_told}
 
 -- what a part's use counts as
@@ -31,6 +37,56 @@ use_counted t (Bracket u) = refl
 use_counted t (Test s) = refl
 use_counted t (Number u) = refl
 use_counted t (Literal u) = refl
+
+-- The same by the uses alone, whatever the tokens are.
+
+abbrev pub tally_uses : Tally → List Use → Tally
+tally_uses t [] = t
+tally_uses t (u ∷ us) = tally_uses (with_use t u) us
+
+abbrev pub use_at : List Use → ℕ → Use
+use_at us k = get_or us k (Bracket Close)
+
+-- a token over its limit, by the uses
+abbrev pub Over : List Use → ℕ → Type 0
+Over us k = Full (tally_uses nothing_yet (take k us)) (counted_use (use_at us (k + 1)))
+
+-- a keyword past the end is not counted
+pub over_past : (us : List Use) (k : ℕ) → length us ≤ k + 1 → Over us k → ⊥
+over_past us k h o = subst (λ u. Full (tally_uses nothing_yet (take k us)) (counted_use u)) (get_or_past us (k + 1) (Bracket Close) h) o
+
+tally_parts : (t : Tally) (k : ℕ) (us : List Use) (ls : List Lexeme) → length us ≤ length ls → tally t (take k (with_uses us ls)) ≡ tally_uses t (take k us)
+tally_parts t zero us ls h = refl
+tally_parts t (suc k) [] ls h = refl
+tally_parts t (suc k) (u ∷ us) [] h = absurd (omega arith)
+tally_parts t (suc k) (u ∷ us) (l ∷ ls) h = tally_parts (with_use t u) k us ls (omega arith)
+
+purpose_at : (k : ℕ) (us : List Use) (ls : List Lexeme) → length us ≤ length ls → (nth (with_uses us ls) k).purpose ≡ use_at us k
+purpose_at k [] ls h = refl
+purpose_at k (u ∷ us) [] h = absurd (omega arith)
+purpose_at zero (u ∷ us) (l ∷ ls) h = refl
+purpose_at (suc k) (u ∷ us) (l ∷ ls) h = purpose_at k us ls (omega arith)
+
+over_is : (us : List Use) (ls : List Lexeme) → length us ≤ length ls → (k : ℕ) → IsOverLimit (with_uses us ls) k ≡ Over us k
+over_is us ls h k = ap₂ FullFor (tally_parts nothing_yet k us ls h) (purpose_at (k + 1) us ls h) ∙ full_use (tally_uses nothing_yet (take k us)) (use_at us (k + 1))
+
+first_as : (P Q : ℕ → Type 0) (r : Option ℕ) → ((k : ℕ) → P k ≡ Q k) → Smallest P r → Smallest Q r
+first_as P Q (Some i) e h = (subst (λ T. T) (e i) h.0, λ j q. h.1 j (subst (λ T. T) (sym (e j)) q))
+first_as P Q None e h = λ i q. h i (subst (λ T. T) (sym (e i)) q)
+
+-- the uses say which is the first
+pub first_over : (us : List Use) (r : Option ℕ) → Smallest (Over us) r → FirstOver us r
+first_over us r h ls long = first_as (Over us) (IsOverLimit (with_uses us ls)) r (λ k. sym (over_is us ls long k)) h
+
+abbrev pub purposes : List code.Part → List Use
+purposes ps = map (λ p. p.purpose) ps
+
+over_parts : (ps : List code.Part) (k : ℕ) → IsOverLimit (parts_of ps) k ≡ Over (purposes ps) k
+over_parts ps k =
+    ap (λ x. IsOverLimit x k) (sym (told_together ps)) ∙ over_is (purposes ps) (map lexeme (map (λ p. p.token) ps)) (simp length-map (omega arith)) k
+
+pub over_any : (ps : List code.Part) (r : Option ℕ) → Smallest (IsOverLimit (parts_of ps)) r → FirstOver (purposes ps) r
+over_any ps r h = first_over (purposes ps) r (first_as (IsOverLimit (parts_of ps)) (Over (purposes ps)) r (over_parts ps) h)
 
 tally_push : (t : Tally) (ps : List Part) (p : Part) → tally t (ps ++ (p ∷ [])) ≡ with_counted (tally t ps) (counted_use p.purpose)
 tally_push t [] p = use_counted t p.purpose

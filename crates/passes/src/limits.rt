@@ -1,8 +1,8 @@
-ghost use Rattle.std.specs.Prelude.{◌≡◌, IsTrue, ◌↔◌};
+ghost use Rattle.std.specs.Prelude.{◌≡◌, map, IsTrue, ◌↔◌};
 ghost use Rattle.tokens.specs.Places.{Smallest};
 ghost use Rattle.grammar.specs.Parts.{parts_of};
 ghost use Rattle.passes.specs.Limits.{with_counted, Full, IsOverLimit};
-ghost use Rattle.passes.specs.Tallies.{meant, tallied, counted_use, Room};
+ghost use Rattle.passes.specs.Tallies.{meant, tallied, counted_use, Room, FirstOver};
 
 use grammar::part::Part;
 use grammar::words::{Keyword, Use};
@@ -103,7 +103,8 @@ impl Tally {
 
 // The number of the first opening bracket whose keyword, the token after it, is one too many.
 pub fn first_over_limit(parts: &[Part<'_>]) -> Option<usize>
-    ensures { Smallest (IsOverLimit (parts_of parts.now)) result }
+    ensures place { Smallest (IsOverLimit (parts_of parts.now)) result }
+    ensures any_tokens { FirstOver (map (λ p. p.purpose) parts.now) result }
 {
     let mut tally = Tally::default();
     for (i, pair) in parts.windows(2).enumerate() {

@@ -1,7 +1,8 @@
-use Rattle.std.proofs.Common.{arith, rules}
+use Rattle.std.proofs.Common.{Some, None, arith, rules}
+use Rattle.std.proofs.lemmas.Grind.{common_steps}
 use Rattle.grammar.specs.Parts.{parts_of}
 use Rattle.passes.specs.Tallies.{meant}
-use Rattle.passes.proofs.Counting.{Turn, turn, tally_more, room, over_passed}
+use Rattle.passes.proofs.Counting.{Turn, turn, tally_more, room, over_passed, over_any}
 use Rattle.passes.proofs.limits.first_over_limit.Goals as goal
 use Rattle.passes.proofs.limits.first_over_limit.Goals.{In-Some}
 
@@ -22,3 +23,9 @@ pub count-requires : goal.count-requires
 count-requires c =
     let w = here (goal.at.count-requires c).In-Some in
     room (parts_of c.args.parts.now) _ c.loop-i.tally c.loop-i.invariant.3 (omega (arith, w.fits, w.number))
+
+pub returns-then-is_full_for-clause-any_tokens : goal.returns-then-is_full_for-clause-any_tokens
+returns-then-is_full_for-clause-any_tokens c = over_any c.args.parts.now (Some c.in-Some.i) (grind (arith, common_steps))
+
+pub returns-clause-any_tokens : goal.returns-clause-any_tokens
+returns-clause-any_tokens c = over_any c.args.parts.now None (grind (arith, common_steps))
