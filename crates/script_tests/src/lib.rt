@@ -184,3 +184,49 @@ mod check_tests {
         assert!(rt; table.text() == b"(task 0)".as_slice());
     }
 }
+
+#[cfg(test)]
+mod parse_tests {
+    use grammar::form::{FormFault, ParseFault, parse, parts};
+    use std::test::Fail;
+    use tokens::token::tokens;
+
+    // A script has the same parts by its text and by its tokens.
+    #[test]
+    fn same_parts(rt: HostRuntime) -> Result<(), Fail> {
+        let scripts: [&[u8]; 3] = [
+            b"(task 0)",
+            b" (task\t0\n(spawn 1)) (task 1)\r\n",
+            b"(channel 1)(task 0(sync(choose(send 1)(wrap(recv 1)(set 7)))))",
+        ];
+        for text in scripts {
+            let tokens = tokens(rt.alloc(), text)?;
+            let by_tokens = parts(rt.alloc(), &tokens).expect(&rt, "a script by its tokens");
+            let by_text = parse(rt.alloc(), text).expect(&rt, "a script by its text");
+            assert_eq!(rt; by_text.as_slice(), by_tokens.as_slice());
+        }
+        Ok(())
+    }
+
+    // What is no script stops at the same token: by its number, and by its place.
+    #[test]
+    fn same_misfits(rt: HostRuntime) -> Result<(), Fail> {
+        let texts: [(&[u8], usize, usize); 3] = [
+            (b"(task 0(always 5))", 4, 8),
+            (b"(task 0", 3, 7),
+            (b"  ", 0, 2),
+        ];
+        for (text, token, at) in texts {
+            let tokens = tokens(rt.alloc(), text)?;
+            assert_eq!(rt;
+                parts(rt.alloc(), &tokens).err(),
+                Some(FormFault::Misfit { token })
+            );
+            assert_eq!(rt;
+                parse(rt.alloc(), text).err(),
+                Some(ParseFault::Misfit { at })
+            );
+        }
+        Ok(())
+    }
+}
