@@ -1,3 +1,4 @@
 pub mod Waiting
 pub mod Messages
 pub mod Commits
+pub mod Reduced

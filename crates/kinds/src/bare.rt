@@ -1,11 +1,11 @@
 ghost use Rattle.std.specs.Prelude.{◌≡◌, false, []};
 ghost use Rattle.rules.specs.Limits.{most_held};
 ghost use Rattle.rules.specs.Kinds.{Kind as Rules, Lawful};
-ghost use Rattle.rules.specs.Delivered.{if_waits};
 ghost use Rattle.std.proofs.Common.{rules as std_rules};
 
 use crate::kind::Kind;
 use crate::offers::Offers;
+pub use crate::offers::among;
 use rules::offer::{Offer, Reply};
 use std::alloc::{AllocError, Global};
 use std::marker::PhantomData;
@@ -14,9 +14,9 @@ use std::marker::PhantomData;
 pub trait BareRule: Sized {
     ghost rules: { Rules };
 
-    // How an offer stands, if it waits.
+    // How an offer stands. Most rules ask `among` whether it waits, after what is cheaper to ask.
     fn reply(waiting: &[Offer], clock: u32, o: Offer) -> Reply
-        ensures { if_waits o waiting.now result ≡ rules.poll waiting.now (λ p. 0) clock o };
+        ensures { result ≡ rules.poll waiting.now (λ p. 0) clock o };
 
     ghost lawful: { Lawful most_held rules };
 
@@ -61,11 +61,7 @@ impl<R: BareRule> Kind for Bare<R> {
     }
 
     fn poll(&self, o: Offer) -> Reply {
-        if self.offers.has(o) {
-            R::reply(&self.offers.list, self.offers.clock, o)
-        } else {
-            Reply::Closed
-        }
+        R::reply(&self.offers.list, self.offers.clock, o)
     }
 
     fn commit<M: Copy>(&mut self, _o: Offer, _message: M, _cells: &mut [M]) -> Option<M> {

@@ -1,13 +1,13 @@
-ghost use Rattle.std.specs.Prelude.{◌≡◌};
+ghost use Rattle.std.specs.Prelude.{◌≡◌, filter};
 ghost use Rattle.rules.specs.Delivered as delivered;
-ghost use Rattle.rules.specs.Delivered.{fits};
+ghost use Rattle.rules.specs.Delivered.{fits, sooner, with_soonest};
 ghost use Rattle.std.proofs.Common.{lit<, refl};
 ghost use Rattle.grammar.specs.declared.words.PortKind.TheVariants.{Channel as ChannelKind};
 ghost use Rattle.rules.specs.declared.kind.BaseKind.TheVariants.{Port};
 ghost use Rattle.rules.specs.Limits.{most_held};
 ghost use Rattle.rules.proofs.DeliveredKinds.{delivered_lawful};
 
-use crate::bare::{Bare, BareRule};
+use crate::bare::{Bare, BareRule, among};
 use rules::offer::{Offer, Reply};
 
 // Channels: two tasks meet.
@@ -22,6 +22,27 @@ fn fits(o: Offer, q: Offer) -> bool
     q.sync != o.sync && q.port == o.port && q.side != o.side
 }
 
+// Whether one partner goes before another: the smaller sync number, then the smaller leaf number.
+fn sooner(q: &Offer, r: &Offer) -> bool
+    ensures { result ≡ sooner q.now r.now }
+{
+    q.sync < r.sync || (q.sync == r.sync && q.leaf < r.leaf)
+}
+
+// The soonest of the possible partners.
+fn partner(waiting: &[Offer], o: Offer) -> Reply
+    ensures { result ≡ with_soonest (filter (fits o) waiting.now) }
+{
+    waiting
+        .iter()
+        .filter(|q| fits(o, **q))
+        .reduce(|best, q| if sooner(q, best) { q } else { best })
+        .map_or(Reply::Closed, |q| Reply::With {
+            sync: q.sync,
+            leaf: q.leaf,
+        })
+}
+
 impl BareRule for ChannelRule {
     ghost rules = { delivered.channel };
 
@@ -29,13 +50,11 @@ impl BareRule for ChannelRule {
 
     ghost bare = { refl };
 
-    // Of the possible partners, the one with the smallest sync number, then leaf.
     fn reply(waiting: &[Offer], _clock: u32, o: Offer) -> Reply {
-        waiting
-            .iter()
-            .filter(|q| fits(o, **q))
-            .map(|q| (q.sync, q.leaf))
-            .min()
-            .map_or(Reply::Closed, |(sync, leaf)| Reply::With { sync, leaf })
+        if among(waiting, o) {
+            partner(waiting, o)
+        } else {
+            Reply::Closed
+        }
     }
 }

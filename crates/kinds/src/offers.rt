@@ -17,6 +17,13 @@ pub struct Offers {
     ghost few: { vec_len list ≤ most_offers },
 }
 
+// Whether just this offer waits. The sync number tells most offers apart.
+pub fn among(waiting: &[Offer], o: Offer) -> bool
+    ensures { result ≡ among o waiting.now }
+{
+    waiting.iter().any(|q| q.sync == o.sync && *q == o)
+}
+
 impl Offers {
     pub fn new(heap: Global) -> Result<Self, AllocError>
         ensures list { IfOk result (λ s. s.list.items ≡ []) }
@@ -30,7 +37,7 @@ impl Offers {
     pub fn has(&self, o: Offer) -> bool
         ensures { result ≡ among o self.now.list.items }
     {
-        self.list.contains(&o)
+        among(&self.list, o)
     }
 
     // Whether an offer of the same leaf waits.
@@ -39,7 +46,7 @@ impl Offers {
     {
         self.list
             .iter()
-            .any(|q| (q.sync, q.leaf) == (o.sync, o.leaf))
+            .any(|q| q.sync == o.sync && q.leaf == o.leaf)
     }
 
     pub fn enrol(&mut self, o: Offer) -> bool

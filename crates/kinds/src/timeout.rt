@@ -4,7 +4,7 @@ ghost use Rattle.rules.specs.declared.kind.BaseKind.TheVariants.{Timeout as Time
 ghost use Rattle.rules.specs.Limits.{most_held};
 ghost use Rattle.rules.proofs.DeliveredKinds.{delivered_lawful};
 
-use crate::bare::{Bare, BareRule};
+use crate::bare::{Bare, BareRule, among};
 use rules::offer::{Offer, Reply, Side};
 
 // Timeouts: open at their due time and after.
@@ -19,9 +19,10 @@ impl BareRule for TimeoutRule {
 
     ghost bare = { refl };
 
-    fn reply(_waiting: &[Offer], clock: u32, o: Offer) -> Reply {
+    // Only a take that is due is looked for.
+    fn reply(waiting: &[Offer], clock: u32, o: Offer) -> Reply {
         match o.side {
-            Side::Take if o.due <= u64::from(clock) => Reply::Alone,
+            Side::Take if o.due <= u64::from(clock) && among(waiting, o) => Reply::Alone,
             _ => Reply::Closed,
         }
     }

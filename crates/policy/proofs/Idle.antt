@@ -1,30 +1,29 @@
--- The idlest of a list is the smallest by stamp, then by number, then by place.
-use Rattle.std.proofs.Common.{◌≡◌, ℕ, suc, ◌+◌, ◌<◌, true, false, cond, List, [], ◌∷◌, map, Option, MatchOption, refl, ap, ◌∙◌, add-one, arith}
+-- The idlest of a list is what a choice of two by `idler` leaves of it, each beside its place.
+use Rattle.std.proofs.Common.{◌≡◌, ℕ, suc, ◌+◌, true, false, cond, List, [], ◌∷◌, Option, None, Some, option_map, MatchOption, Bor, refl, ap, ◌∙◌, add-one, arith}
 use Rattle.std.specs.List.{enumerate_from, fold, reduce}
-use Rattle.std.specs.Ordering.{ordering_then, min_by_ordering, nat_cmp}
-use Rattle.std.proofs.lemmas.Bool.Decides.{nat_tests}
 use Rattle.replay.specs.declared.candidate.Candidate.{Candidate}
 use Rattle.replay.specs.Policies.{idler, idlest, idlest_after}
 
-abbrev pub ranked : ℕ × Candidate → ℕ × ℕ × ℕ
-ranked p = (p.1.stamp, p.1.task, p.0)
+abbrev pub idler_one : ℕ × Candidate → ℕ × Candidate → ℕ × Candidate
+idler_one a b = cond (idler b.1 a.1) b a
 
-abbrev pub smaller : ℕ × ℕ × ℕ → ℕ × ℕ × ℕ → ℕ × ℕ × ℕ
-smaller a b = min_by_ordering (ordering_then (ordering_then (nat_cmp a.0 b.0) (nat_cmp a.1 b.1)) (nat_cmp a.2 b.2)) a b
-
-smaller_ranked : (i j : ℕ) (c d : Candidate) → i < j → smaller (ranked (i, c)) (ranked (j, d)) ≡ cond (idler d c) (ranked (j, d)) (ranked (i, c))
-smaller_ranked i j c d l = grind (arith, nat_tests)
-
-smallest_after : (i : ℕ) (c : Candidate) (j : ℕ) (ds : List Candidate) → i < j → (fold smaller (ranked (i, c)) (map ranked (enumerate_from j ds))).2 ≡ idlest_after i c j ds
-smallest_after i c j [] l = refl
-smallest_after i c j (d ∷ ds) l =
-    ap (λ t. (fold smaller t (map ranked (enumerate_from (j + 1) ds))).2) (smaller_ranked i j c d l)
-    ∙ elim (idler d c) as (λ b. (fold smaller (cond b (ranked (j, d)) (ranked (i, c))) (map ranked (enumerate_from (j + 1) ds))).2 ≡ cond b (idlest_after j d (suc j) ds) (idlest_after i c (suc j) ds)) [
-      | true ↦ rw add-one (smallest_after j d (suc j) ds (omega arith))
-      | false ↦ rw add-one (smallest_after i c (suc j) ds (omega arith))
+idlest_fold : (i : ℕ) (c : Candidate) (j : ℕ) (ds : List Candidate) → (fold idler_one (i, c) (enumerate_from j ds)).0 ≡ idlest_after i c j ds
+idlest_fold i c j [] = refl
+idlest_fold i c j (d ∷ ds) =
+    elim (idler d c) as (λ b. (fold idler_one (cond b (j, d) (i, c)) (enumerate_from (j + 1) ds)).0 ≡ cond b (idlest_after j d (suc j) ds) (idlest_after i c (suc j) ds)) [
+      | true ↦ rw add-one (idlest_fold j d (suc j) ds)
+      | false ↦ rw add-one (idlest_fold i c (suc j) ds)
     ]
 
-pub smallest_place : {Q : ℕ × ℕ × ℕ → Type 0} (cs : List Candidate) (m : Option (ℕ × ℕ × ℕ)) (place : ℕ) → m ≡ reduce smaller (map ranked (enumerate_from 0 cs))
-    → MatchOption m (place ≡ 0) Q → ((t : ℕ × ℕ × ℕ) → Q t → place ≡ t.2) → place ≡ idlest cs
-smallest_place [] m place e h k = rw e at h
-smallest_place (c ∷ cs) m place e h k = k _ (rw e at h) ∙ smallest_after 0 c 1 cs (omega arith)
+abbrev pub seen : ℕ × Bor Candidate → ℕ × Candidate
+seen p = (p.0, p.1.now)
+
+pub idler_picks : (p q : ℕ × Bor Candidate) → seen (cond (idler q.1.now p.1.now) q p) ≡ idler_one (seen p) (seen q)
+idler_picks p q = elim (idler q.1.now p.1.now) as (λ b. seen (cond b q p) ≡ cond b (seen q) (seen p)) [ true ↦ refl | false ↦ refl ]
+
+pub idlest_place : {Q : ℕ × Bor Candidate → Type 0} (cs : List Candidate) (m : Option (ℕ × Bor Candidate)) (place : ℕ) → option_map seen m ≡ reduce idler_one (enumerate_from 0 cs)
+    → MatchOption m (place ≡ 0) Q → ((t : ℕ × Bor Candidate) → Q t → place ≡ t.0) → place ≡ idlest cs
+idlest_place [] None place e h k = h
+idlest_place [] (Some t) place e h k = absurd (grind arith)
+idlest_place (c ∷ cs) None place e h k = absurd (grind arith)
+idlest_place (c ∷ cs) (Some t) place e h k = let same : seen t ≡ fold idler_one (0, c) (enumerate_from 1 cs) = cc in k t h ∙ (ap (λ p. p.0) same ∙ idlest_fold 0 c 1 cs)

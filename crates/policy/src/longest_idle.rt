@@ -1,5 +1,5 @@
 ghost use Rattle.std.specs.Prelude.{◌≡◌};
-ghost use Rattle.replay.specs.Policies.{longest_idle};
+ghost use Rattle.replay.specs.Policies.{idler, longest_idle};
 ghost use Rattle.replay.proofs.Idlest.{longest_idle_law};
 ghost use Rattle.policy.specs.declared.longest_idle.LongestIdle.{LongestIdle};
 
@@ -10,18 +10,24 @@ use replay::candidate::Candidate;
 #[derive(Clone, Copy)]
 pub struct LongestIdle;
 
+// Whether one task goes before another: the smaller stamp, then the smaller number.
+fn idler(c: &Candidate, d: &Candidate) -> bool
+    ensures { result ≡ idler c.now d.now }
+{
+    c.stamp < d.stamp || (c.stamp == d.stamp && c.task < d.task)
+}
+
 impl Policy for LongestIdle {
     ghost rules = { longest_idle };
 
     ghost inside = { (longest_idle_law LongestIdle).inside };
 
     fn name_task(&mut self, able: &[Candidate]) -> usize {
-        // The smallest stamp, then number, then place; 0 where there is none.
+        // The place of the idlest, the first of equals; 0 where there is none.
         able.iter()
             .enumerate()
-            .map(|(place, c)| (c.stamp, c.task, place))
-            .min()
-            .map_or(0, |(_, _, place)| place)
+            .reduce(|best, next| if idler(next.1, best.1) { next } else { best })
+            .map_or(0, |(place, _)| place)
     }
 
     fn name_leaf(&mut self, _leaves: &[u8]) -> usize {
