@@ -37,10 +37,13 @@ fn partner(waiting: &[Offer], o: Offer) -> Reply
         .iter()
         .filter(|q| fits(o, **q))
         .reduce(|best, q| if sooner(q, best) { q } else { best })
-        .map_or(Reply::Closed, |q| Reply::With {
-            sync: q.sync,
-            leaf: q.leaf,
-        })
+        .map_or(
+            Reply::Closed,
+            |q| Reply::With {
+                sync: q.sync,
+                leaf: q.leaf,
+            },
+        )
 }
 
 impl BareRule for ChannelRule {

@@ -1,5 +1,5 @@
 ghost use Rattle.std.specs.Prelude.{◌≡◌};
-ghost use Rattle.replay.specs.Policies.{idler, longest_idle};
+ghost use Rattle.replay.specs.Policies.{idler, idlest, longest_idle};
 ghost use Rattle.replay.proofs.Idlest.{longest_idle_law};
 ghost use Rattle.policy.specs.declared.longest_idle.LongestIdle.{LongestIdle};
 
@@ -17,17 +17,26 @@ fn idler(c: &Candidate, d: &Candidate) -> bool
     c.stamp < d.stamp || (c.stamp == d.stamp && c.task < d.task)
 }
 
+// The place of the idlest, the first of equals; 0 where there is none.
+fn idlest(able: &[Candidate]) -> usize
+    ensures { result ≡ idlest able.now }
+{
+    let mut best = 0;
+    for (place, c) in able.iter().enumerate() {
+        if idler(c, &able[best]) {
+            best = place;
+        }
+    }
+    best
+}
+
 impl Policy for LongestIdle {
     ghost rules = { longest_idle };
 
     ghost inside = { (longest_idle_law LongestIdle).inside };
 
     fn name_task(&mut self, able: &[Candidate]) -> usize {
-        // The place of the idlest, the first of equals; 0 where there is none.
-        able.iter()
-            .enumerate()
-            .reduce(|best, next| if idler(next.1, best.1) { next } else { best })
-            .map_or(0, |(place, _)| place)
+        idlest(able)
     }
 
     fn name_leaf(&mut self, _leaves: &[u8]) -> usize {
