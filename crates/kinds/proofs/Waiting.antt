@@ -12,8 +12,14 @@ use Rattle.rules.specs.Kinds.{Kind, Meaning, polled, leaf_waits}
 use Rattle.rules.specs.Delivered.{same_offer, among, sooner, soonest_of, with_soonest}
 use Rattle.rules.specs.Able.{opens, sooner_of, soonest_closed}
 
-pub leaf_waits_any : (s l : ℕ) (os : List Offer) → leaf_waits s l os ≡ list_any (λ q. q.sync == s && q.leaf == l) os
-leaf_waits_any s l = same_from_clauses _ _ (λ o b. (o.sync == s && o.leaf == l) || b) refl (λ _ _. refl) (λ _ _. refl)
+pub leaf_waits_any : (s l : ℕ) (os : List Offer) → leaf_waits s l os ≡ list_any (λ q. q.leaf == l) (filter (λ q. q.sync == s) os)
+leaf_waits_any s l [] = refl
+leaf_waits_any s l (o ∷ os) =
+    let rest = leaf_waits_any s l os in
+    elim (o.sync == s) as (λ b. (b && o.leaf == l) || leaf_waits s l os ≡ list_any (λ q. q.leaf == l) (cond b (o ∷ filter (λ q. q.sync == s) os) (filter (λ q. q.sync == s) os))) [
+      | true ↦ ap (λ b. o.leaf == l || b) rest
+      | false ↦ rest
+    ]
 
 -- The sync number, and then the equality that the code derives, are that of the rules.
 

@@ -46,7 +46,8 @@ impl Offers {
     {
         self.list
             .iter()
-            .any(|q| q.sync == o.sync && q.leaf == o.leaf)
+            .filter(|q| q.sync == o.sync)
+            .any(|q| q.leaf == o.leaf)
     }
 
     pub fn enrol(&mut self, o: Offer) -> bool
