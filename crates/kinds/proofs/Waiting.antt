@@ -1,6 +1,9 @@
 -- The offers that wait, as std's searches and comparisons see them.
-use Rattle.std.proofs.Common.{◌≡◌, ℕ, true, false, cond, not, ◌&&◌, ◌||◌, List, [], ◌∷◌, map, Option, None, Some, option_map, filter, ◌==◌, MatchOption, min, Bor, refl, ap, ◌∙◌, arith}
+use mathlib.Core.List.Memᴰ
+use mathlib.Core.List.{Memᴰ}
+use Rattle.std.proofs.Common.{◌≡◌, ℕ, true, false, cond, not, ◌&&◌, ◌||◌, List, [], ◌∷◌, map, Option, None, Some, option_map, filter, ◌==◌, MatchOption, min, Bor, ◌≢◌, refl, ap, subst, ◌∙◌, arith}
 use Rattle.std.specs.List.{list_any, reduce, fold}
+use Rattle.std.proofs.lemmas.Bool.{or_left, or_right}
 use Rattle.std.proofs.lemmas.Bool.Decides.{nat_tests}
 use Rattle.std.proofs.lemmas.List.Recursion.{same_from_clauses}
 use Rattle.rules.specs.contracts.offer.OfferPartialEq.TheImpl.{ghosts as OfferEq}
@@ -8,8 +11,9 @@ use Rattle.rules.specs.contracts.offer.ReplyPartialEq.TheImpl.{ghosts as ReplyEq
 use Rattle.rules.specs.declared.offer.Offer.{Offer}
 use Rattle.rules.specs.declared.offer.Reply.{Reply}
 use Rattle.rules.specs.declared.offer.Reply.TheVariants.{Closed, With}
-use Rattle.rules.specs.Kinds.{Kind, Meaning, polled, leaf_waits}
+use Rattle.rules.specs.Kinds.{Kind, Lawful, Meaning, polled, leaf_waits}
 use Rattle.rules.specs.Delivered.{same_offer, among, sooner, soonest_of, with_soonest}
+use Rattle.rules.specs.Limits.{most_held}
 use Rattle.rules.specs.Able.{opens, sooner_of, soonest_closed}
 
 pub leaf_waits_any : (s l : ℕ) (os : List Offer) → leaf_waits s l os ≡ list_any (λ q. q.leaf == l) (filter (λ q. q.sync == s) os)
@@ -28,6 +32,22 @@ same_offers q o = grind (arith, nat_tests)
 
 pub among_any : (o : Offer) (os : List Offer) → among o os ≡ list_any (λ q. q.sync == o.sync && OfferEq.eq q o) os
 among_any o = same_from_clauses _ _ (λ q b. same_offer o q || b) refl (λ _ _. refl) (λ q qs. ap (λ a. a || list_any (λ q. q.sync == o.sync && OfferEq.eq q o) qs) (same_offers q o))
+
+-- An offer that does not wait is closed, at any kind that keeps the laws.
+
+same_itself : (o : Offer) → same_offer o o ≡ true
+same_itself o = grind (arith, nat_tests)
+
+among_member : (o : Offer) (os : List Offer) → Memᴰ o os → among o os ≡ true
+among_member o [] m = absurd (Memᴰ.not-nil m)
+among_member o (q ∷ qs) (Memᴰ.head e) = or_left _ _ (subst (λ r. same_offer o r ≡ true) e (same_itself o))
+among_member o (q ∷ qs) (Memᴰ.tail m) = or_right _ _ (among_member o qs m)
+
+shut_unless : (r : Reply) → (r ≢ Closed → ⊥) → r ≡ Closed
+shut_unless r n = grind arith
+
+pub shut_unless_waits : {K : Kind} → Lawful most_held K → (os : List Offer) (h : ℕ → ℕ) (k : ℕ) (o : Offer) → among o os ≡ false → K.poll os h k o ≡ Closed
+shut_unless_waits l os h k o n = shut_unless _ (λ u. let waits = among_member o os (l.waits os h k o u) in cc)
 
 -- the soonest of some partners
 
