@@ -14,7 +14,7 @@ use std::marker::PhantomData;
 pub trait BareRule: Sized {
     ghost rules: { Rules };
 
-    // How an offer stands. Most rules ask `among` whether it waits, after what is cheaper to ask.
+    // How an offer stands; one that does not wait is closed. `among` says whether it waits.
     fn reply(waiting: &[Offer], clock: u32, o: Offer) -> Reply
         ensures { result ≡ rules.poll waiting.now (λ p. 0) clock o };
 

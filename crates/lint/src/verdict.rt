@@ -50,25 +50,25 @@ fn count_bodies<M: Message>(rows: &Rows<M>) -> usize {
     (0..32).filter(|b| rows.body(*b).is_some()).count()
 }
 
-// Checks the script, and counts what an accepted one declares, but for its events.
-fn check_declared<M: Message>(heap: Global, text: &[u8]) -> Result<Counts, Fault> {
+// Checks the script, and counts what is in an accepted one.
+pub fn judge<M: Message>(heap: Global, text: &[u8]) -> Result<Counts, Fault> {
     let mut table: Checked<M> = Checked::new(heap);
     check(heap, Text::new(text), &mut table)?;
     let rows = table.rows();
-    Ok(Counts {
-        channels: count_ports(rows, PortKind::Channel),
-        mailboxes: count_ports(rows, PortKind::Mailbox),
-        ivars: count_ports(rows, PortKind::Ivar),
-        mvars: count_ports(rows, PortKind::Mvar),
-        bodies: count_bodies(rows),
-        events: 0,
-    })
-}
-
-// Checks the script, and counts what is in an accepted one. The rows are let go before its parts are
-// made again for the events.
-pub fn judge<M: Message>(heap: Global, text: &[u8]) -> Result<Counts, Fault> {
-    let declared = check_declared::<M>(heap, text)?;
+    let channels = count_ports(rows, PortKind::Channel);
+    let mailboxes = count_ports(rows, PortKind::Mailbox);
+    let ivars = count_ports(rows, PortKind::Ivar);
+    let mvars = count_ports(rows, PortKind::Mvar);
+    let bodies = count_bodies(rows);
+    // The rows are let go before the parts are made again.
+    drop(table);
     let events = count_events(heap, text)?;
-    Ok(Counts { events, ..declared })
+    Ok(Counts {
+        channels,
+        mailboxes,
+        ivars,
+        mvars,
+        bodies,
+        events,
+    })
 }

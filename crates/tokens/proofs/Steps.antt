@@ -47,6 +47,6 @@ found text before rest after ks k step s within = record {
 
 pub all_found : (text before rest after : List ℕ) (ks : List Token) → Scanned before rest after None → Sofar text before rest ks → Tokenised text ks
 all_found text before rest after ks step s = record {
-  tokens_are = sym (append-nil (map placed ks)) ∙ ap (λ us. map placed ks ++ us) (sym (subst (λ t. ahead t rest ≡ []) s.same step)) ∙ s.split;
+  tokens_are = sym (append-nil (map placed ks)) ∙ ap (λ us. map placed ks ++ us) (sym (subst (λ t. ahead t rest ≡ []) s.same step.0)) ∙ s.split;
   classified = s.classified;
 }

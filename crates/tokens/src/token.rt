@@ -85,7 +85,7 @@ fn run_token<'a>(at: usize, text: &'a [u8]) -> Token<'a>
 #[derive(Clone, Copy)]
 pub struct Scanner<'a> {
     text: &'a [u8],
-    // What is left of the text, which ends with it.
+    // What of the text is still to be read.
     rest: &'a [u8],
     ghost within: { length rest.now ≤ length text.now },
 }
