@@ -1,6 +1,7 @@
 ghost use Rattle.std.specs.Prelude.{◌≡◌, false, []};
 ghost use Rattle.rules.specs.Limits.{most_held};
 ghost use Rattle.rules.specs.Kinds.{Kind as Rules, Lawful};
+ghost use Rattle.rules.specs.Delivered.{if_waits};
 ghost use Rattle.std.proofs.Common.{rules as std_rules};
 
 use crate::kind::Kind;
@@ -14,9 +15,21 @@ use std::marker::PhantomData;
 pub trait BareRule: Sized {
     ghost rules: { Rules };
 
-    // How an offer stands; one that does not wait is closed. `among` says whether it waits.
+    // How an offer stands, if it waits.
     fn reply(waiting: &[Offer], clock: u32, o: Offer) -> Reply
-        ensures { result ≡ rules.poll waiting.now (λ p. 0) clock o };
+        ensures { if_waits o waiting.now result ≡ rules.poll waiting.now (λ p. 0) clock o };
+
+    // How any offer stands: one that does not wait is closed. A rule that can tell so of some offers
+    // without a search has a body of its own.
+    fn reply_to_any(waiting: &[Offer], clock: u32, o: Offer) -> Reply
+        ensures { result ≡ rules.poll waiting.now (λ p. 0) clock o }
+    {
+        if among(waiting, o) {
+            Self::reply(waiting, clock, o)
+        } else {
+            Reply::Closed
+        }
+    }
 
     ghost lawful: { Lawful most_held rules };
 
@@ -61,7 +74,7 @@ impl<R: BareRule> Kind for Bare<R> {
     }
 
     fn poll(&self, o: Offer) -> Reply {
-        R::reply(&self.offers.list, self.offers.clock, o)
+        R::reply_to_any(&self.offers.list, self.offers.clock, o)
     }
 
     fn commit<M: Copy>(&mut self, _o: Offer, _message: M, _cells: &mut [M]) -> Option<M> {

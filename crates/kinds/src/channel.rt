@@ -53,7 +53,11 @@ impl BareRule for ChannelRule {
 
     ghost bare = { refl };
 
-    fn reply(waiting: &[Offer], _clock: u32, o: Offer) -> Reply {
+    fn reply(waiting: &[Offer], clock: u32, o: Offer) -> Reply {
+        Self::reply_to_any(waiting, clock, o)
+    }
+
+    fn reply_to_any(waiting: &[Offer], _clock: u32, o: Offer) -> Reply {
         if among(waiting, o) {
             partner(waiting, o)
         } else {

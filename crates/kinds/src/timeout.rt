@@ -19,8 +19,12 @@ impl BareRule for TimeoutRule {
 
     ghost bare = { refl };
 
-    // Only a take that is due is looked for.
     fn reply(waiting: &[Offer], clock: u32, o: Offer) -> Reply {
+        Self::reply_to_any(waiting, clock, o)
+    }
+
+    // Only a take that is due is looked for.
+    fn reply_to_any(waiting: &[Offer], clock: u32, o: Offer) -> Reply {
         match o.side {
             Side::Take if o.due <= u64::from(clock) && among(waiting, o) => Reply::Alone,
             _ => Reply::Closed,

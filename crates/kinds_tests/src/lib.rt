@@ -1,6 +1,12 @@
 //! Example offers, times and messages: what the kinds reply, and what a commit leaves in the cells.
 #![tactic(auto)]
 
+ghost use Rattle.std.proofs.Common.{lit<, refl};
+ghost use Rattle.rules.specs.Delivered.{timeout};
+ghost use Rattle.rules.specs.Limits.{most_held};
+ghost use Rattle.rules.specs.declared.kind.BaseKind.TheVariants.{Timeout as TimeoutKind};
+ghost use Rattle.rules.proofs.DeliveredKinds.{delivered_lawful};
+
 #[cfg(test)]
 mod examples {
     use kinds::kind::Kind;
@@ -556,6 +562,91 @@ mod timeout_tests {
         timeouts.withdraw(2);
         assert_eq!(rt; soonest_closed(&timeouts), Some(70));
         Ok(())
+    }
+}
+
+#[cfg(test)]
+mod rule_tests {
+    use crate::examples::{check_enrol, check_stand, due, give, take, with};
+    use kinds::bare::{Bare, BareRule};
+    use kinds::channel::ChannelRule;
+    use kinds::kind::{Kind, soonest_closed};
+    use kinds::timeout::TimeoutRule;
+    use rules::offer::Reply::{Alone, Closed};
+    use rules::offer::{Offer, Reply, Side};
+    use std::test::Fail;
+
+    // Timeouts by a rule that does not ask whether an offer waits.
+    struct DueRule;
+
+    impl BareRule for DueRule {
+        ghost rules = { timeout };
+
+        ghost lawful = { delivered_lawful most_held (lit< tt) TimeoutKind };
+
+        ghost bare = { refl };
+
+        fn reply(_waiting: &[Offer], clock: u32, o: Offer) -> Reply {
+            match o.side {
+                Side::Take if o.due <= u64::from(clock) => Alone,
+                _ => Closed,
+            }
+        }
+    }
+
+    // A kind is made of such a rule too, in which an offer that does not wait is closed.
+    #[test]
+    fn rule_of_waiting(rt: HostRuntime) -> Result<(), Fail> {
+        let mut timeouts: Bare<DueRule> = Bare::fresh(rt.alloc())?;
+        let (now, after) = (due(1, 0, 1000), due(1, 1, 1001));
+        timeouts.tell(1000);
+        check_stand(&rt, &timeouts, &[(now, Closed), (after, Closed)]);
+        check_enrol(&rt, &mut timeouts, &[after, now, give(2, 0, 0)]);
+        let stands = [
+            (now, Alone),
+            (after, Closed),
+            (give(2, 0, 0), Closed),
+            (due(1, 0, 999), Closed),
+            (due(2, 0, 1000), Closed),
+        ];
+        check_stand(&rt, &timeouts, &stands);
+        assert_eq!(rt; soonest_closed(&timeouts), Some(0));
+        timeouts.withdraw(2);
+        assert_eq!(rt; soonest_closed(&timeouts), Some(1001));
+        timeouts.withdraw(1);
+        check_stand(&rt, &timeouts, &[(now, Closed)]);
+        Ok(())
+    }
+
+    // To an offer that waits, the delivered rules reply the same either way.
+    #[test]
+    fn replies(rt: HostRuntime) {
+        let waiting = [give(5, 0, 2), take(6, 1, 2), due(7, 0, 1000)];
+        let stands = [
+            (give(5, 0, 2), with(6, 1)),
+            (take(6, 1, 2), with(5, 0)),
+            (due(7, 0, 1000), Closed),
+        ];
+        for (o, want) in stands {
+            assert_eq!(rt; ChannelRule::reply(&waiting, 1000, o), want);
+            assert_eq!(rt; ChannelRule::reply_to_any(&waiting, 1000, o), want);
+        }
+        for (clock, want) in [(999, Closed), (1000, Alone), (1001, Alone)] {
+            assert_eq!(rt; TimeoutRule::reply(&waiting, clock, due(7, 0, 1000)), want);
+            assert_eq!(rt;
+                TimeoutRule::reply_to_any(&waiting, clock, due(7, 0, 1000)),
+                want
+            );
+            assert_eq!(rt; DueRule::reply(&waiting, clock, due(7, 0, 1000)), want);
+            assert_eq!(rt;
+                DueRule::reply_to_any(&waiting, clock, due(7, 0, 1000)),
+                want
+            );
+            assert_eq!(rt;
+                DueRule::reply_to_any(&waiting, clock, due(8, 0, 0)),
+                Closed
+            );
+        }
     }
 }
 
