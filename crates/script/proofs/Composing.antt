@@ -21,7 +21,7 @@ use Rattle.message.specs.declared.literal.LiteralFault.{LiteralFault}
 use Rattle.message.specs.Literals.{Longest}
 use Rattle.grammar.specs.declared.form.ParseFault.{ParseFault}
 use Rattle.grammar.specs.declared.form.ParseFault.TheVariants as parse
-use Rattle.grammar.specs.Verdicts.{ParseVerdict}
+use Rattle.grammar.specs.Verdicts.{AreParts, ParseVerdict}
 use Rattle.script.specs.declared.fault.Fault.{Fault}
 use Rattle.script.specs.Faults.{as_fault}
 use Rattle.script.specs.Refusals.{Rule, too_long, foreign_byte, too_deep, misfit, out_of_range, misnamed, over_limit, no_message, rule_number, Broken, IsInScript, Refused, RefusedLiteral}
@@ -198,3 +198,19 @@ stage_literal literal text ps qs f same k at fault e longest =
 pub unformed : (text : List ℕ) (fault : ParseFault) → ParseVerdict text (Err fault) → Unformed text (as_fault fault)
 unformed text (parse.Misfit at) m = inr (at, refl, subst (First (Misfit text)) (sym m.2) (misfit_first text m.0 m.1))
 unformed text parse.Memory m = inl refl
+
+-- The form of a text's tokens, where its parts are made of them, is that of the text.
+
+-- tokens of the text in their parts
+pub formed : (text : List ℕ) (ks qs : List Token) (ps : List code.Part) → Tokenised text ks → qs ≡ ks → AreParts qs ps → Formed text ps
+formed text ks qs ps t same a =
+    let P : List Lexeme → Type 0 = λ ls. Uses ls (purposes ps) in
+    record { tokens = subst (Tokenised text) (sym (a.tokens_are ∙ same)) t; uses = subst P (ap (map lexeme) same ∙ tokens_lexemes text ks t) a.uses }
+
+-- where no script goes on is the text's first such place
+pub form_first : (text : List ℕ) (ks ps qs : List Token) → Tokenised text ks → ps ≡ ks → qs ≡ ks → (k at : ℕ) → at ≡ place_of (map placed ps) (length text) k → MisfitAt (map lexeme qs) k → First (Misfit text) at
+form_first text ks ps qs t pk qk k at e m =
+    let same : at ≡ place_of (tokens text) (length text) k = e ∙ ap (λ ts. place_of ts (length text) k) (ap (map placed) pk ∙ t.tokens_are) in
+    let Q : List Lexeme → Type 0 = λ ls. MisfitAt ls k in
+    let R : ℕ → Type 0 = λ i. First (Misfit text) i in
+    subst R (sym same) (misfit_first text k (subst Q (ap (map lexeme) qk ∙ tokens_lexemes text ks t) m))

@@ -1,5 +1,5 @@
 -- One step over a text.
-use Rattle.std.proofs.Common.{◌≡◌, ℕ, suc, ◌+◌, ◌-◌, ◌<◌, ◌≤◌, ◌⊎◌, Bool, true, false, cond, List, [], ◌∷◌, ◌++◌, Some, None, map, length, take, drop, refl, sym, inl, inr, ap, ◌∙◌, subst, append_assoc, append-nil, one-add, arith}
+use Rattle.std.proofs.Common.{◌≡◌, ℕ, ◌+◌, ◌-◌, ◌<◌, ◌≤◌, List, [], ◌∷◌, ◌++◌, Some, None, map, length, take, drop, sym, ap, ◌∙◌, subst, append_assoc, append-nil, one-add, arith}
 use Rattle.std.specs.List.{prefix_len, AllByRecursion}
 use Rattle.std.proofs.ByRecursion.{All-push}
 use Rattle.std.proofs.lemmas.List.{map_push, length-drop}
@@ -50,3 +50,23 @@ all_found text before rest after ks step s = record {
   tokens_are = sym (append-nil (map placed ks)) ∙ ap (λ us. map placed ks ++ us) (sym (subst (λ t. ahead t rest ≡ []) s.same step.0)) ∙ s.split;
   classified = s.classified;
 }
+
+module _ (text left rest : List ℕ) (b : ℕ) (e : left ≡ b ∷ rest) (ks later : List Token) (k : Token) (push : later ≡ ks ++ k ∷ []) {before : List ℕ} (s : Sofar text before left ks) where
+  -- the token ahead is pushed
+  pushed : (after : List ℕ) → Scanned text left after (Some k) → Sofar text before after later
+  pushed after step =
+      let here = subst (λ t. Scanned t left after (Some k)) (sym s.same) step in
+      subst (Sofar text before after) (sym push) (found text before left after ks k here s (omega (arith, step.2, s.within)))
+
+  -- its first byte is a token
+  pub found_byte : (c : Class) → class b ≡ c → with_byte (length text - length left) b c (next_class rest) (tokens_from (length text - length rest) rest) ≡ placed k ∷ tokens_from (length text - length rest) rest → Classified k → Sofar text before rest later
+  found_byte c is token h =
+      let i = length text - length left in
+      let next : i + 1 ≡ length text - length rest = omega (arith, ap length e, s.within) in
+      let first = ap (tokens_from i) e ∙ ap (λ d. with_byte i b d (next_class rest) (tokens_from (i + 1) rest)) is ∙ ap (λ j. with_byte i b c (next_class rest) (tokens_from j rest)) next in
+      pushed rest (first ∙ token, h, omega (arith, ap length e))
+
+  -- it begins with a run of n bytes
+  pub found_run : (n : ℕ) (run after : List ℕ) → class b ≡ runs → n ≡ prefix_len in_run left → run ≡ take n left → after ≡ drop n left → TokenOfRun (length text - length left) run k → Sofar text before after later
+  found_run n run after is ends front back t =
+      pushed after (run_ahead text left rest b s.within e (sym is) k n run after ends front back t)
